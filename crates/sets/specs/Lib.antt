@@ -1,0 +1,13 @@
+pub mod Bools
+pub mod Set
+pub mod Sums
+pub mod Members
+pub mod Bounds
+pub mod Words
+pub mod Build
+pub mod Lowest
+pub mod Sizes
+pub mod Subsets
+pub mod Counts
+pub mod Visits
+pub mod Examples

@@ -1,0 +1,36 @@
+-- Forward (document 01): "Forward of m by p: m moves from pending to seen at p; then each known subscriber of m's topic at
+-- p gets m pending, unless m is pending or seen there. Each peer so changed is one delivery, and a single forward reports
+-- their number [..] origin and previous sender have no exemption." Assumes nothing.
+use Prim.Native.Nat.{ℕ}
+use lib.ListN.{set}
+use Rattle.sets.specs.Set.{has, union, minus, only, withIf, size}
+use Rattle.lists.specs.Edit.{edit}
+use Rattle.network.specs.declared.Peer.{Peer}
+use Rattle.network.specs.declared.Message.{Message}
+use Rattle.network.specs.declared.Network.{Network}
+use Rattle.network.specs.declared.Table.{Table}
+use Rattle.network.specs.Network.{mk, pendingOf, seenOf, knownOf, topicOf}
+use Rattle.floodnet.specs.Produce.{holders}
+
+-- "m moves from pending to seen at p"
+unfoldable pub moved : Network → Peer → Message → Network
+moved n p m =
+    mk (n .present) (n .pubs) (n .subs) (n .neighbours)
+    (set (n .pending) (p .0) (minus (pendingOf n p) (only (m .0))))
+    (set (n .seen) (p .0) (union (seenOf n p) (only (m .0))))
+    (n .known)
+
+-- the known subscribers of m's topic at p that do not hold m, once it has moved
+unfoldable pub receivers : Network → Table → Peer → Message → ℕ
+receivers n b p m = minus (knownOf n p (topicOf b m)) (holders (moved n p m) (knownOf n p (topicOf b m)) m)
+
+-- m becomes pending at each peer of r
+unfoldable pub given : Network → ℕ → Message → Network
+given n r m = mk (n .present) (n .pubs) (n .subs) (n .neighbours) (edit (λ q w. withIf (has r q) (m .0) w) (n .pending)) (n .seen) (n .known)
+
+unfoldable pub forwarded : Network → Table → Peer → Message → Network
+forwarded n b p m = given (moved n p m) (receivers n b p m) m
+
+-- "Each peer so changed is one delivery"
+unfoldable pub deliveries : Network → Table → Peer → Message → ℕ
+deliveries n b p m = size (receivers n b p m)

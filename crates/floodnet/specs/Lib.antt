@@ -1,0 +1,4 @@
+pub mod Produce
+pub mod Forward
+pub mod Topics
+pub mod Links

@@ -1,6 +1,8 @@
 pub mod Bools
 pub mod Set
 pub mod Sums
+pub mod Any
+pub mod Least
 pub mod Members
 pub mod Bounds
 pub mod Words

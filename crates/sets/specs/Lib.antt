@@ -10,6 +10,7 @@ pub mod Build
 pub mod Lowest
 pub mod Sizes
 pub mod Subsets
+pub mod Algebra
 pub mod Counts
 pub mod Visits
 pub mod Examples

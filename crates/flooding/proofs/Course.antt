@@ -1,17 +1,19 @@
 -- Rounds are a run of accepted forwards like any other, and so end where every order ends; a shortest chain has fewer than N links. Assumes nothing.
-use mathlib.Core.Path.{_≡_, refl, sym, _∙_}
+use mathlib.Core.Path.{_≡_, refl, sym, _∙_, ap}
 use mathlib.Core.Logic.{_⊎_, inl, inr}
 use mathlib.Core.Bool.{true}
 use mathlib.Core.List.{List, [], _++_}
-use Prim.Native.Nat.{ℕ, zero, suc, _<_}
+use Prim.Native.Nat.{ℕ, zero, suc, _≤_, _<_}
 use native.Mathlib.Omega.{arith}
+use lib.ListN.{length, length-append}
 use Rattle.sets.specs.Bools.{clash, or-yes}
 use Rattle.flooding.specs.Network.{Net, Sound, Quiet, Reached, Shortest}
+use Rattle.flooding.specs.Counts.{unseenPairs}
 use Rattle.flooding.specs.Machine.{Pair, run, row, todo, round, rounds}
 use Rattle.flooding.proofs.Run.{after, Accepted, same-end, chain-unseen}
-use Rattle.flooding.proofs.Round.{netRound, netRounds, after-append, accepted-append, todo-accepted, sound-rounds, round-seen}
+use Rattle.flooding.proofs.Round.{netRound, netRounds, after-append, accepted-append, todo-accepted, sound-after, sound-rounds, round-seen}
 use Rattle.flooding.proofs.Levels.{level}
-use Rattle.flooding.proofs.Count.{rounds-quiet, rounds-lower, unseenOf-pos, unseenOf-bound}
+use Rattle.flooding.proofs.Count.{run-counts, rounds-quiet, rounds-lower, unseenOf-pos, unseenOf-bound}
 
 module _ (N M : ℕ) where
   -- The forwards of the first k rounds, in their order.
@@ -32,6 +34,16 @@ module _ (N M : ℕ) where
   -- Every order ends where the rounds end.
   pub ends-as-rounds : (s : Net) (l : List Pair) → Sound N M s → Accepted s l → Quiet (after s l) → after s l ≡ netRounds N M N s
   ends-as-rounds s l ok a still = same-end s l (course N s) a (course-accepted N s) still (rw (course-after N s) (rounds-quiet N M s ok)) ∙ course-after N s
+
+  -- No list of accepted forwards is longer than one that ends with nothing pending.
+  pub no-longer : (s : Net) (l r : List Pair) → Sound N M s → Accepted s l → Accepted s r → Quiet (after s r) → length l ≤ length r
+  no-longer s l r ok a b calm =
+      let t : Net = after s l in
+      let c : List Pair = course N t in
+      let e : after s (l ++ c) ≡ netRounds N M N t = after-append s l c ∙ course-after N t in
+      let d : Accepted s (l ++ c) = accepted-append s l c a (course-accepted N t) in
+      let same : after s (l ++ c) ≡ after s r = same-end s (l ++ c) r d b (rw e (rounds-quiet N M t (sound-after s l ok a))) calm in
+      omega (arith, ap (λ (u : Net). unseenPairs N M u) same, run-counts N M s (l ++ c) ok d, run-counts N M s r ok b, length-append l c)
 
   -- A round in a quiet network does nothing.
   quiet-row : (s : Net) → Quiet s → (p k : ℕ) → row s p k ≡ []

@@ -4,3 +4,7 @@ pub mod Levels
 pub mod Count
 pub mod Course
 pub mod Tally
+pub mod Floods
+pub mod Drain
+pub mod Settled
+pub mod Examples

@@ -1,5 +1,5 @@
 -- The drain of a machine: the page's records Drains and Finishes, and that Drains settles the answer. Assumes nothing.
-use mathlib.Core.Path.{_≡_, refl, sym, _∙_, ap, subst}
+use mathlib.Core.Path.{_≡_, refl, sym, _∙_, ap}
 use mathlib.Core.Logic.{_⊎_, inl, inr}
 use mathlib.Core.Bool.{Bool, true, false}
 use mathlib.Core.List.{List, [], _∷_, _++_}
@@ -9,7 +9,7 @@ use lib.Dec.{leb}
 use borrow.Author.Tests.{leb-true, leb-false}
 use lib.ListN.{length, take, length-append, length-take}
 use Rattle.sets.specs.Bools.{clash}
-use Rattle.flooding.specs.Network.{Net, Sound, Quiet}
+use Rattle.flooding.specs.Network.{Net, Quiet}
 use Rattle.flooding.specs.Counts.{unseenPairs}
 use Rattle.flooding.specs.Machine.{Pair, pair, run, Accepts, due, round, rounds, Drained, stopped, more, cut, drain, Machine}
 use Rattle.flooding.specs.Page.{Drains, Finishes}
@@ -18,7 +18,7 @@ use Rattle.flooding.proofs.Run.{mem}
 use Rattle.flooding.proofs.Round.{todo-mem}
 use Rattle.flooding.proofs.Count.{unseen-bound}
 use Rattle.flooding.proofs.Course.{quiet-todo}
-use Rattle.flooding.proofs.Floods.{due-accepts, run-ok, round-ok, rounds-ok, floods}
+use Rattle.flooding.proofs.Floods.{due-accepts, round-ok, floods}
 
 -- A round has nothing to do, or the budget has all of it, or not all.
 ways : (n b : ℕ) → (n ≡ 0) ⊎ (((0 < n) × (n ≤ b)) ⊎ (b < n))
@@ -29,6 +29,10 @@ ways (suc n) b = inr (first (leb (suc n) b) refl)
     first true e = inl (omega arith, leb-true (suc n) b e)
     first false e = inr (leb-false (suc n) b e)
 
+none : {j : ℕ} → j < 0 → ⊥
+none h = omega arith
+
+-- An empty list has no pair.
 nil-mem : (l : List Pair) → length l ≡ 0 → (q n : ℕ) → mem l q n ≡ false
 unfolding mem
 nil-mem [] h q n = refl
@@ -83,7 +87,7 @@ module _ {S : Type 0} (view : S → Net) (fwd : S → ℕ → ℕ → S) (N M : 
         within = omega arith;
         stops = inl still;
         few = omega arith;
-        needed = λ (j : ℕ) (l : j < 0) q. omega arith;
+        needed = λ j l q. none l;
         part = 0;
         whole = refl;
         unfinished = inr still;
@@ -137,9 +141,9 @@ module _ {S : Type 0} (view : S → Net) (fwd : S → ℕ → ℕ → S) (N M : 
             within = omega arith;
             stops = inr refl;
             few = omega arith;
-            needed = λ (j : ℕ) (l′ : j < 0) q. omega arith;
             part = b;
             whole = refl;
+            needed = λ j l′ q. none l′;
             unfinished = inl l;
           }
 

@@ -162,16 +162,6 @@ sound-after s [] ok a = ok
 sound-after s (pair p m ∷ l) ok a = sound-after (forward s p m) l (sound-forward s p m ok (a .0)) (a .1)
 
 module _ (N M : ℕ) where
-  pub sound-rounds : (s : Net) → Sound N M s → (k : ℕ) → Sound N M (netRounds N M k s)
-  unfolding rounds round
-  sound-rounds s ok zero = ok
-  sound-rounds s ok (suc k) = sound-after (netRounds N M k s) _ (sound-rounds s ok k) (todo-accepted M (netRounds N M k s) N)
-
-  pub rounds-link : (s : Net) (k m p q : ℕ) → link (netRounds N M k s) m p q ≡ link s m p q
-  unfolding rounds round
-  rounds-link s zero m p q = refl
-  rounds-link s (suc k) m p q = rw (after-known (netRounds N M k s) (todo M (netRounds N M k s) N), after-topic (netRounds N M k s) (todo M (netRounds N M k s) N)) (rounds-link s k m p q)
-
   -- A round's list is what is pending.
   pub todo-mem : (s : Net) → Sound N M s → (q n : ℕ) → mem (todo M s N) q n ≡ s .pending q n
   todo-mem s ok q n =
@@ -204,3 +194,13 @@ module _ (N M : ℕ) where
       let f : feeds (link s) (todo M s N) q n ≡ true = feeds-yes (link s) (todo M s N) p q n (todo-mem s ok p n ∙ w) k in
       after-pending s (todo M s N) q n ∙ rw (todo-mem s ok q n, e, z, f)
 
+  -- k rounds keep soundness, and the links.
+  pub sound-rounds : (s : Net) → Sound N M s → (k : ℕ) → Sound N M (netRounds N M k s)
+  unfolding rounds round
+  sound-rounds s ok zero = ok
+  sound-rounds s ok (suc k) = sound-after (netRounds N M k s) _ (sound-rounds s ok k) (todo-accepted M (netRounds N M k s) N)
+
+  pub rounds-link : (s : Net) (k m p q : ℕ) → link (netRounds N M k s) m p q ≡ link s m p q
+  unfolding rounds round
+  rounds-link s zero m p q = refl
+  rounds-link s (suc k) m p q = rw (after-known (netRounds N M k s) (todo M (netRounds N M k s) N), after-topic (netRounds N M k s) (todo M (netRounds N M k s) N)) (rounds-link s k m p q)

@@ -1,7 +1,7 @@
 -- Runs, rounds and the drain, of any type S of states that shows a network, `view`, and has a forward of its own, `fwd`.
 -- A network is such a state itself, with `itself` and `forward`. Assumes nothing.
 use mathlib.Core.Path.{_≡_}
-use mathlib.Core.Bool.{Bool, true, false, cond}
+use mathlib.Core.Bool.{true, cond}
 use mathlib.Core.List.{List, [], _∷_, _++_}
 use Prim.Native.Nat.{ℕ, zero, suc, _+_, _-_}
 use lib.Dec.{eqb, leb}

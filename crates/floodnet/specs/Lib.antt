@@ -2,3 +2,4 @@ pub mod Produce
 pub mod Forward
 pub mod Topics
 pub mod Links
+pub mod SoundBase

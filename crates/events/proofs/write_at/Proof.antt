@@ -23,7 +23,7 @@ same-length c = search needs
 
 returns-2 : tie.Need-returns-2
 unfolding writtenAt pickBytes
-returns-2 c = simp (lt-ltb _ _ (c .before .before .before .before .before .before .if1 .left)) (refl, (cc))
+returns-2 c = simp (lt-ltb _ _ (c .before .before .before .before .before .if1 .left)) (refl, (cc))
 
 pub write-at-spec : {M : Type 1} → statement M
 write-at-spec =

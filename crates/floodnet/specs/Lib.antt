@@ -3,3 +3,4 @@ pub mod Forward
 pub mod Topics
 pub mod Links
 pub mod SoundBase
+pub mod ProduceLaws

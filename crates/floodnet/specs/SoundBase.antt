@@ -1,9 +1,10 @@
--- A list of sets after a store or an edit, read one member at a time; and the bounds that it keeps. `getD l j 0` is the set at place j, and
--- every law holds past the end of the list too, unless it says otherwise. Assumes nothing.
+-- A list of sets after a store or an edit, read one member at a time, and the bounds that it keeps: `getD l j 0` is the set at place j, and
+-- every law holds past the end of the list too, unless it says otherwise. Then: what keeps a network sound whose pending and seen messages
+-- change. Assumes nothing.
 use mathlib.Core.Path.{_≡_, refl, sym, ap, _∙_}
 use mathlib.Core.Bool.{Bool, true, false, not, cond, _&&_, _||_, and-true, or-false}
 use mathlib.Core.List.{List}
-use Prim.Native.Nat.{ℕ, _≤_, _<_}
+use Prim.Native.Nat.{ℕ, _^_, _≤_, _<_}
 use native.Mathlib.Omega.{arith}
 use native.Mathlib.Decide.{decLt, ℕ-discrete}
 use lib.Dec.{eqb}
@@ -11,11 +12,16 @@ use lib.ListN.{length, getD, set, List·getD-eq-default}
 use lib.Seq.{getD-set-same, getD-set-other, set-out}
 use borrow.Author.Tests.{eqb-true, eq-eqb}
 use Rattle.sets.specs.Set.{has, union, minus, only, withIf}
-use Rattle.sets.specs.Bools.{bool-ext, eqb-same, ne-eqb}
+use Rattle.sets.specs.Bools.{clash, not-false, bool-ext, eqb-same, ne-eqb}
 use Rattle.sets.specs.Members.{has-union, has-minus, has-none, has-only}
-use Rattle.sets.specs.Bounds.{has-out}
 use Rattle.sets.specs.Build.{has-withIf}
+use Rattle.sets.specs.Lowest.{none-empty}
 use Rattle.lists.specs.Edit.{edit, getD-edit, getD-edit-out}
+use Rattle.network.specs.declared.Peer.{Peer}
+use Rattle.network.specs.declared.Message.{Message}
+use Rattle.network.specs.declared.Network.{Network}
+use Rattle.network.specs.Network.{mk, message, present, pending, saw, Shaped}
+use Rattle.network.specs.Sound.{Empty, Sound}
 
 -- Equal numbers, either way round.
 pub eqb-sym : (a b : ℕ) → eqb a b ≡ eqb b a
@@ -78,3 +84,58 @@ has-edit-with r m l j x h = go (decLt j (length l))
     go (no k) =
         let o : length l ≤ j = omega arith in
         ap (λ (w : ℕ). has w x) (getD-edit-out (λ q w. withIf (has r q) m w) l j o) ∙ has-none x ∙ sym (rw (has-beyond l j x o, h o))
+
+-- ---- other pending and seen messages
+
+-- n with these in their place
+abbrev pub holding : Network → List ℕ → List ℕ → Network
+holding n waiting had = mk (n .present) (n .pubs) (n .subs) (n .neighbours) waiting had (n .known)
+
+-- It keeps the shape, if they have it.
+pub holding-shaped : {n : Network} (waiting had : List ℕ) → Shaped n → length waiting ≡ 32 → length had ≡ 32
+    → ((i : ℕ) → getD waiting i 0 < 2 ^ 64) → ((i : ℕ) → getD had i 0 < 2 ^ 64) → Shaped (holding n waiting had)
+holding-shaped waiting had s w h w-fit h-fit =
+    record {
+      present = s .present;
+      pubs = s .pubs;
+      subs = s .subs;
+      neighbours = s .neighbours;
+      pending = w;
+      seen = h;
+      known = s .known;
+      pubs-fit = s .pubs-fit;
+      subs-fit = s .subs-fit;
+      neighbours-fit = s .neighbours-fit;
+      pending-fit = w-fit;
+      seen-fit = h-fit;
+      known-fit = s .known-fit;
+    }
+
+-- It is sound, if only the present hold or have seen a message, and none both at once.
+pub holding-sound : {n : Network} (waiting had : List ℕ) → Sound n → Shaped (holding n waiting had)
+    → ((q : Peer) (k : Message) → pending (holding n waiting had) q k ≡ true → present n q ≡ true)
+    → ((q : Peer) (k : Message) → saw (holding n waiting had) q k ≡ true → present n q ≡ true)
+    → ((q : Peer) (k : Message) → pending (holding n waiting had) q k ≡ true → saw (holding n waiting had) q k ≡ false)
+    → Sound (holding n waiting had)
+holding-sound {n} waiting had s shape held seen apart =
+    record {
+      shaped = shape;
+      empty = empty;
+      own = s .own;
+      near = s .near;
+      back = s .back;
+      knows = s .knows;
+      apart = apart;
+    }
+  where
+    empty : (q : Peer) → q .0 < 32 → present n q ≡ false → Empty (holding n waiting had) q
+    empty q b a =
+        let e = s .empty q b a in
+        record {
+          pubs = e .pubs;
+          subs = e .subs;
+          neighbours = e .neighbours;
+          pending = none-empty _ λ k. not-false λ h. clash (held q (message k) h) a;
+          seen = none-empty _ λ k. not-false λ h. clash (seen q (message k) h) a;
+          known = e .known;
+        }

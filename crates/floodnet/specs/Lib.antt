@@ -4,3 +4,5 @@ pub mod Topics
 pub mod Links
 pub mod SoundBase
 pub mod ProduceLaws
+pub mod Refusals
+pub mod Step

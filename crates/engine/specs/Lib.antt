@@ -1,2 +1,5 @@
 pub mod Start
 pub mod Run
+pub mod RunLaws
+pub mod RunStops
+pub mod RunCounts

@@ -4,3 +4,4 @@ pub mod Topics
 pub mod Links
 pub mod SoundBase
 pub mod ProduceLaws
+pub mod ForwardLaws

@@ -5,3 +5,5 @@ pub mod Links
 pub mod SoundBase
 pub mod ProduceLaws
 pub mod ForwardLaws
+pub mod View
+pub mod ViewLaws

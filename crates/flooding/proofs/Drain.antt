@@ -29,6 +29,7 @@ ways (suc n) b = inr (first (leb (suc n) b) refl)
     first true e = inl (omega arith, leb-true (suc n) b e)
     first false e = inr (leb-false (suc n) b e)
 
+-- Nothing is below 0.
 none : {j : ℕ} → j < 0 → ⊥
 none h = omega arith
 
@@ -76,6 +77,7 @@ module _ {S : Type 0} (view : S → Net) (fwd : S → ℕ → ℕ → S) (N M : 
   pub due-some : (s : S) → Quiet (view s) → length (due N M (view s)) ≡ 0
   due-some s still = rw (quiet-todo N M (view s) still N)
 
+  -- A drain with nothing to do.
   idle : (b fuel : ℕ) (s : S) → Quiet (view s) → Drains view fwd N M s b fuel (stopped s)
   unfolding rounds run
   idle b fuel s still =

@@ -1,5 +1,5 @@
 -- The drain of a machine: the page's records Drains and Finishes, and that Drains settles the answer. Assumes nothing.
-use mathlib.Core.Path.{_≡_, refl, sym, _∙_, ap, subst}
+use mathlib.Core.Path.{_≡_, refl, sym, _∙_, ap}
 use mathlib.Core.Logic.{_⊎_, inl, inr}
 use mathlib.Core.Bool.{Bool, true, false}
 use mathlib.Core.List.{List, [], _∷_, _++_}
@@ -8,8 +8,7 @@ use native.Mathlib.Omega.{arith}
 use lib.Dec.{leb}
 use borrow.Author.Tests.{leb-true, leb-false}
 use lib.ListN.{length, take, length-append, length-take}
-use Rattle.sets.specs.Bools.{clash}
-use Rattle.flooding.specs.Network.{Net, Sound, Quiet}
+use Rattle.flooding.specs.Network.{Net, Quiet}
 use Rattle.flooding.specs.Counts.{unseenPairs}
 use Rattle.flooding.specs.Machine.{Pair, pair, run, Accepts, due, round, rounds, Drained, stopped, more, cut, drain, Machine}
 use Rattle.flooding.specs.Page.{Drains, Finishes}
@@ -18,7 +17,7 @@ use Rattle.flooding.proofs.Run.{mem}
 use Rattle.flooding.proofs.Round.{todo-mem}
 use Rattle.flooding.proofs.Count.{unseen-bound}
 use Rattle.flooding.proofs.Course.{quiet-todo}
-use Rattle.flooding.proofs.Floods.{due-accepts, run-ok, round-ok, rounds-ok, floods}
+use Rattle.flooding.proofs.Floods.{due-accepts, round-ok, floods}
 
 -- A round has nothing to do, or the budget has all of it, or not all.
 ways : (n b : ℕ) → (n ≡ 0) ⊎ (((0 < n) × (n ≤ b)) ⊎ (b < n))
@@ -29,6 +28,11 @@ ways (suc n) b = inr (first (leb (suc n) b) refl)
     first true e = inl (omega arith, leb-true (suc n) b e)
     first false e = inr (leb-false (suc n) b e)
 
+-- Nothing is below 0.
+none : {j : ℕ} → j < 0 → ⊥
+none h = omega arith
+
+-- An empty list has no pair.
 nil-mem : (l : List Pair) → length l ≡ 0 → (q n : ℕ) → mem l q n ≡ false
 unfolding mem
 nil-mem [] h q n = refl
@@ -51,13 +55,6 @@ module _ {S : Type 0} (view : S → Net) (fwd : S → ℕ → ℕ → S) where
   accepts-take (suc n) s [] a = tt
   accepts-take (suc n) s (pair p m ∷ l) a = (a .0, accepts-take n (fwd s p m) l (a .1))
 
-  -- After n forwards of a longer accepted list, the next is pending.
-  next-pending : (n : ℕ) (s : S) (l : List Pair) → n < length l → Accepts view fwd s l → Quiet (view (run fwd s (take n l))) → ⊥
-  unfolding run
-  next-pending n s [] h a q = omega arith
-  next-pending zero s (pair p m ∷ l) h a q = clash (a .0) (q p m)
-  next-pending (suc n) s (pair p m ∷ l) h a q = next-pending n (fwd s p m) l (omega arith) (a .1) q
-
   -- One round, and then k.
   pub rounds-shift : (N M k : ℕ) (s : S) → rounds view fwd N M k (round view fwd N M s) ≡ rounds view fwd N M (suc k) s
   unfolding rounds
@@ -72,6 +69,7 @@ module _ {S : Type 0} (view : S → Net) (fwd : S → ℕ → ℕ → S) (N M : 
   pub due-some : (s : S) → Quiet (view s) → length (due N M (view s)) ≡ 0
   due-some s still = rw (quiet-todo N M (view s) still N)
 
+  -- A drain with nothing to do.
   idle : (b fuel : ℕ) (s : S) → Quiet (view s) → Drains view fwd N M s b fuel (stopped s)
   unfolding rounds run
   idle b fuel s still =
@@ -83,7 +81,7 @@ module _ {S : Type 0} (view : S → Net) (fwd : S → ℕ → ℕ → S) (N M : 
         within = omega arith;
         stops = inl still;
         few = omega arith;
-        needed = λ (j : ℕ) (l : j < 0) q. omega arith;
+        needed = λ j l q. none l;
         part = 0;
         whole = refl;
         unfinished = inr still;
@@ -137,9 +135,9 @@ module _ {S : Type 0} (view : S → Net) (fwd : S → ℕ → ℕ → S) (N M : 
             within = omega arith;
             stops = inr refl;
             few = omega arith;
-            needed = λ (j : ℕ) (l′ : j < 0) q. omega arith;
             part = b;
             whole = refl;
+            needed = λ j l′ q. none l′;
             unfinished = inl l;
           }
 

@@ -1,7 +1,7 @@
 -- Case A11 of document 01 on a network of 32 peers and 64 messages. Assumes nothing.
 use mathlib.Core.Path.{_≡_, refl}
 use mathlib.Core.Bool.{true, false, _&&_, _||_}
-use Prim.Native.Nat.{ℕ, _<_}
+use Prim.Native.Nat.{ℕ}
 use native.Mathlib.Omega.{arith}
 use lib.Dec.{eqb, ltb}
 use borrow.Author.Tests.{eqb-true, ltb-true}
@@ -29,6 +29,7 @@ answer b =
     let r = drain itself forward 32 64 32 b line in
     (r .forwards, r .rounds)
 
+-- With budget 2,048; 2; 0.
 pub a11-enough : answer 2048 ≡ (3, 3)
 unfolding drain round run forward todo row
 a11-enough = refl

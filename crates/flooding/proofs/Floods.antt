@@ -1,13 +1,13 @@
 -- A machine whose forward shows the network's forward floods as the network does: the page's record Floods. Assumes nothing.
 use mathlib.Core.Path.{_≡_, refl, sym, _∙_, ap, subst}
 use mathlib.Core.Logic.{_⊎_, inl, inr, _↔_}
-use mathlib.Core.Bool.{true, false}
+use mathlib.Core.Bool.{true}
 use mathlib.Core.List.{List, [], _∷_}
-use Prim.Native.Nat.{ℕ, zero, suc, _+_, _≤_, _<_}
+use Prim.Native.Nat.{ℕ, zero, suc, _+_, _<_}
 use native.Mathlib.Omega.{arith}
 use lib.ListN.{length}
-use Rattle.flooding.specs.Network.{Net, Sound, forward, Quiet, Chain, holds, link-to, Reached, Linked, Shortest}
-use Rattle.flooding.specs.Counts.{unseenPairs, pendingPairs, deliveries}
+use Rattle.flooding.specs.Network.{Net, Sound, forward, Quiet, Chain, holds, Reached, Linked}
+use Rattle.flooding.specs.Counts.{unseenPairs}
 use Rattle.flooding.specs.Machine.{Pair, pair, run, Accepts, itself, todo, due, round, rounds, Machine}
 use Rattle.flooding.specs.Page.{Floods}
 use Rattle.flooding.proofs.Run as runs
@@ -109,7 +109,9 @@ module _ {S : Type 0} (view : S → Net) (fwd : S → ℕ → ℕ → S) (N M : 
         same-count = λ l r a b still calm.
             omega (arith, ap (λ (t : S). unseenPairs N M (view t)) (end l r a b still calm), counts l a, counts r b);
         no-more = λ l r a b calm. course.no-longer N M (view s) l r fine (shown s l k a) (shown s r k b) (rw (run-view s r k b) at calm);
-        by-rounds = λ m q d h. rw (rounds-view (suc d) s k, rounds-view d s k) (levels.seen-by-rounds N M (view s) fine m q d h);
+        by-rounds = λ m q d h.
+            let x = levels.seen-by-rounds N M (view s) fine m q d h in
+            (shows (suc d) q m ∙ x .0, shows d q m ∙ x .1);
         holder = λ m q h. record { chain = holds h; least = λ (d : ℕ) (b : d < 0) c. omega arith };
         nearest = λ m q r.
             let x = course.shortest N M (view s) fine m q r in
@@ -128,6 +130,9 @@ module _ {S : Type 0} (view : S → Net) (fwd : S → ℕ → ℕ → S) (N M : 
 
       counts : (l : List Pair) → Accepts view fwd s l → length l + unseenPairs N M (view (run fwd s l)) ≡ unseenPairs N M (view s)
       counts l a = rw (run-view s l k a) (count.run-counts N M (view s) l fine (shown s l k a))
+
+      shows : (j q m : ℕ) → (view (rounds view fwd N M j s)) .seen q m ≡ (netRounds N M j (view s)) .seen q m
+      shows j q m = ap (λ (t : Net). t .seen q m) (rounds-view j s k)
 
       reached : (l : List Pair) → Accepts view fwd s l → Quiet (view (run fwd s l)) → (q m : ℕ)
           → ((view (run fwd s l)) .seen q m ≡ true) ↔ (((view s) .seen q m ≡ true) ⊎ Reached (view s) m q)

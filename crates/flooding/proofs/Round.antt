@@ -19,6 +19,7 @@ netRound N M s = round itself forward N M s
 abbrev pub netRounds : ℕ → ℕ → ℕ → Net → Net
 netRounds N M k s = rounds itself forward N M k s
 
+-- A list after another: its pairs, its run, its acceptance.
 pub mem-append : (l r : List Pair) (q n : ℕ) → mem (l ++ r) q n ≡ (mem l q n || mem r q n)
 unfolding mem
 mem-append [] r q n = refl
@@ -53,6 +54,7 @@ one-yes : (s : Net) (p k : ℕ) → s .pending p k ≡ true → mem (cond (s .pe
 unfolding mem
 one-yes s p k h = rw (h, eqb-same p, eqb-same k)
 
+-- A row has the pairs of p that are pending, and no others; so has the list of all rows.
 pub row-why : (s : Net) (p k q n : ℕ) → mem (row s p k) q n ≡ true → (q ≡ p) × (n < k) × (s .pending p n ≡ true)
 unfolding mem row
 row-why s p zero q n h = clash h refl
@@ -101,7 +103,7 @@ todo-yes M s (suc k) q n h b w = mem-append (todo M s k) _ q n ∙ first (below-
 pub still-pending : (s : Net) (l : List Pair) (q n : ℕ) → s .pending q n ≡ true → mem l q n ≡ false → (after s l) .pending q n ≡ true
 still-pending s l q n w e = after-pending s l q n ∙ rw (e, w)
 
--- A round's forwards are all accepted.
+-- A round's forwards are all accepted: each pair is still pending when its turn comes.
 row-accepted : (s : Net) (l : List Pair) (p k : ℕ) → ((n : ℕ) → mem l p n ≡ false) → Accepted (after s l) (row s p k)
 unfolding row
 row-accepted s l p zero new = tt
@@ -162,16 +164,6 @@ sound-after s [] ok a = ok
 sound-after s (pair p m ∷ l) ok a = sound-after (forward s p m) l (sound-forward s p m ok (a .0)) (a .1)
 
 module _ (N M : ℕ) where
-  pub sound-rounds : (s : Net) → Sound N M s → (k : ℕ) → Sound N M (netRounds N M k s)
-  unfolding rounds round
-  sound-rounds s ok zero = ok
-  sound-rounds s ok (suc k) = sound-after (netRounds N M k s) _ (sound-rounds s ok k) (todo-accepted M (netRounds N M k s) N)
-
-  pub rounds-link : (s : Net) (k m p q : ℕ) → link (netRounds N M k s) m p q ≡ link s m p q
-  unfolding rounds round
-  rounds-link s zero m p q = refl
-  rounds-link s (suc k) m p q = rw (after-known (netRounds N M k s) (todo M (netRounds N M k s) N), after-topic (netRounds N M k s) (todo M (netRounds N M k s) N)) (rounds-link s k m p q)
-
   -- A round's list is what is pending.
   pub todo-mem : (s : Net) → Sound N M s → (q n : ℕ) → mem (todo M s N) q n ≡ s .pending q n
   todo-mem s ok q n =
@@ -204,3 +196,13 @@ module _ (N M : ℕ) where
       let f : feeds (link s) (todo M s N) q n ≡ true = feeds-yes (link s) (todo M s N) p q n (todo-mem s ok p n ∙ w) k in
       after-pending s (todo M s N) q n ∙ rw (todo-mem s ok q n, e, z, f)
 
+  -- k rounds keep soundness, and the links.
+  pub sound-rounds : (s : Net) → Sound N M s → (k : ℕ) → Sound N M (netRounds N M k s)
+  unfolding rounds round
+  sound-rounds s ok zero = ok
+  sound-rounds s ok (suc k) = sound-after (netRounds N M k s) _ (sound-rounds s ok k) (todo-accepted M (netRounds N M k s) N)
+
+  pub rounds-link : (s : Net) (k m p q : ℕ) → link (netRounds N M k s) m p q ≡ link s m p q
+  unfolding rounds round
+  rounds-link s zero m p q = refl
+  rounds-link s (suc k) m p q = rw (after-known (netRounds N M k s) (todo M (netRounds N M k s) N), after-topic (netRounds N M k s) (todo M (netRounds N M k s) N)) (rounds-link s k m p q)

@@ -1,6 +1,6 @@
 -- The commitment map: the image keeps of what was seen only what is pending nowhere. What a forward of m does to it: nothing, while m is still
 -- pending somewhere; else m, new until then, is at all who have seen it. Assumes nothing.
-use mathlib.Core.Path.{_≡_, refl, sym, _∙_, ap}
+use mathlib.Core.Path.{_≡_, refl, sym, _∙_}
 use mathlib.Core.Logic.{_⊎_, inl, inr}
 use mathlib.Core.Bool.{Bool, true, false, not, _&&_, _||_, or-false, and-false, and-true}
 use Prim.Native.Nat.{ℕ, zero, suc, _<_}

@@ -1,5 +1,5 @@
 -- For the loops of a drain: at peer p and message m, the pairs done are `done`, a front of the round's list. Assumes nothing.
-use mathlib.Core.Path.{_≡_, refl, sym, _∙_, ap}
+use mathlib.Core.Path.{_≡_, refl, sym, _∙_}
 use mathlib.Core.Bool.{Bool, true, false, cond}
 use mathlib.Core.List.{List, [], _∷_, _++_, append-assoc, append-nil}
 use Prim.Native.Nat.{ℕ, zero, suc, _+_, _-_, _≤_, _<_}
@@ -55,6 +55,7 @@ unfolding todo pendingPairs sum
 due-length zero M s = refl
 due-length (suc N) M s = length-append (todo M s N) (row s N M) ∙ rw (due-length N M s, row-length s N M)
 
+-- The rest of a row, and of the list of all rows.
 row-split : (s : Net) (p m k : ℕ) → m ≤ k → (r : List Pair) × (row s p k ≡ row s p m ++ r)
 unfolding row
 row-split s p m k h = le-ind (λ j. (r : List Pair) × (row s p j ≡ row s p m ++ r)) ([], sym (append-nil (row s p m))) step k h
@@ -84,7 +85,14 @@ unfolding run
 run-snoc fwd s [] p m = refl
 run-snoc fwd s (pair q n ∷ l) p m = run-snoc fwd (fwd s q n) l p m
 
--- The three ways of a drain that has rounds left: nothing is due; the budget has the whole round; it has not.
+-- The second and the third of three ways.
+second-way : {X : Type 0} {b : X} {x y : Bool} (a c : X) → x ≡ false → y ≡ true → cond x a (cond y b c) ≡ b
+second-way a c e f = rw (e, f)
+
+third-way : {X : Type 0} {c : X} {x y : Bool} (a b : X) → x ≡ false → y ≡ false → cond x a (cond y b c) ≡ c
+third-way a b e f = rw (e, f)
+
+-- The steps of a drain that has rounds left: nothing is due; the budget has the whole round; it has not.
 module _ {S : Type 0} (view : S → Net) (fwd : S → ℕ → ℕ → S) (N M : ℕ) (fuel b : ℕ) (s : S) where
   pub drain-stop : length (due N M (view s)) ≡ 0 → drain view fwd N M (suc fuel) b s ≡ stopped s
   unfolding drain
@@ -93,8 +101,9 @@ module _ {S : Type 0} (view : S → Net) (fwd : S → ℕ → ℕ → S) (N M : 
   pub drain-round : 0 < length (due N M (view s)) → length (due N M (view s)) ≤ b
       → drain view fwd N M (suc fuel) b s ≡ more (length (due N M (view s))) (drain view fwd N M fuel (b - length (due N M (view s))) (round view fwd N M s))
   unfolding drain
-  drain-round h l = rw (ne-eqb (λ (e : length (due N M (view s)) ≡ 0). omega arith), le-leb (length (due N M (view s))) b l)
+  drain-round h l = second-way (stopped s) (cut (run fwd s (take b (due N M (view s)))) b) (ne-eqb (λ (e : length (due N M (view s)) ≡ 0). omega arith)) (le-leb (length (due N M (view s))) b l)
 
   pub drain-cut : b < length (due N M (view s)) → drain view fwd N M (suc fuel) b s ≡ cut (run fwd s (take b (due N M (view s)))) b
   unfolding drain
-  drain-cut l = rw (ne-eqb (λ (e : length (due N M (view s)) ≡ 0). omega arith), lt-leb (length (due N M (view s))) b l)
+  drain-cut l =
+      third-way (stopped s) (more (length (due N M (view s))) (drain view fwd N M fuel (b - length (due N M (view s))) (round view fwd N M s))) (ne-eqb (λ (e : length (due N M (view s)) ≡ 0). omega arith)) (lt-leb (length (due N M (view s))) b l)

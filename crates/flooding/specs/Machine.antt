@@ -1,13 +1,14 @@
 -- Runs, rounds and the drain, of any type S of states that shows a network, `view`, and has a forward of its own, `fwd`.
 -- A network is such a state itself, with `itself` and `forward`. Assumes nothing.
 use mathlib.Core.Path.{_≡_}
-use mathlib.Core.Bool.{Bool, true, false, cond}
+use mathlib.Core.Bool.{true, cond}
 use mathlib.Core.List.{List, [], _∷_, _++_}
 use Prim.Native.Nat.{ℕ, zero, suc, _+_, _-_}
 use lib.Dec.{eqb, leb}
 use lib.ListN.{length, take}
 use Rattle.flooding.specs.Network.{Net, Sound, forward}
 
+-- A network shows itself.
 abbrev pub itself : Net → Net
 itself s = s
 

@@ -19,6 +19,7 @@ use Rattle.flooding.proofs.Round.{netRound, netRounds, sound-forward, s
 abbrev pub unseenOf : ℕ → ℕ → Net → ℕ
 unseenOf N m s = sum N (λ p. digit (s .present p && not (s .seen p m)))
 
+-- A digit is at most 1, so at most N desks have not seen m.
 digit-one : (b : Bool) → digit b ≤ 1
 digit-one true = omega arith
 digit-one false = omega arith
@@ -43,12 +44,14 @@ module _ (N M : ℕ) where
       own : sum M (λ n. digit (s .present p && not (s .seen p n))) ≡ suc (sum M (λ n. digit (s .present p && not (s .seen p n || at p m p n))))
       own = sum-drop M _ _ m (ok .held p m a .1) (λ n e. rw (ne-eqb e, and-false (eqb p p), or-false (s .seen p n))) (rw (here, ok .apart p m a, eqb-same p, eqb-same m))
 
+  -- So a list of them lowers it by its length.
   pub run-counts : (s : Net) (l : List Pair) → Sound N M s → Accepted s l → length l + unseenPairs N M (after s l) ≡ unseenPairs N M s
   unfolding run
   run-counts s [] ok a = omega arith
   run-counts s (pair p m ∷ l) ok a =
       omega (arith, run-counts (forward s p m) l (sound-forward s p m ok (a .0)) (a .1), forward-counts s p m ok (a .0))
 
+  -- There are at most N * M unseen pairs.
   pub unseen-bound : (s : Net) → unseenPairs N M s ≤ N * M
   unfolding unseenPairs
   unseen-bound s = sum-bound N M _ λ p. first p (sum-bound M 1 _ λ m. digit-one (s .present p && not (s .seen p m)))
@@ -79,6 +82,7 @@ module _ (N M : ℕ) where
       own : digit ((netRound N M s) .present p && not ((netRound N M s) .seen p m)) < digit (s .present p && not (s .seen p m))
       own = rw (after-present s (todo M s N), round-seen N M s ok p m, here, ok .apart p m a, a) (omega arith)
 
+  -- Where m is still pending after k rounds, each of them lowered that count.
   pub rounds-lower : (s : Net) → Sound N M s → (k q m : ℕ) → (netRounds N M k s) .pending q m ≡ true → unseenOf N m (netRounds N M k s) + k ≤ unseenOf N m s
   unfolding rounds
   rounds-lower s ok zero q m h = omega arith

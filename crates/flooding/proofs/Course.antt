@@ -11,7 +11,7 @@ use Rattle.flooding.specs.Network.{Net, Sound, Quiet, Reached, Shortest}
 use Rattle.flooding.specs.Counts.{unseenPairs}
 use Rattle.flooding.specs.Machine.{Pair, run, row, todo, round, rounds}
 use Rattle.flooding.proofs.Run.{after, Accepted, same-end, chain-unseen}
-use Rattle.flooding.proofs.Round.{netRound, netRounds, after-append, accepted-append, todo-accepted, sound-after, sound-rounds, round-seen}
+use Rattle.flooding.proofs.Round.{netRounds, after-append, accepted-append, todo-accepted, sound-after, sound-rounds, round-seen}
 use Rattle.flooding.proofs.Levels.{level}
 use Rattle.flooding.proofs.Count.{run-counts, rounds-quiet, rounds-lower, unseenOf-pos, unseenOf-bound}
 
@@ -21,6 +21,7 @@ module _ (N M : ℕ) where
   course zero s = []
   course (suc k) s = course k s ++ todo M (netRounds N M k s) N
 
+  -- They lead to the network after k rounds, and are accepted.
   pub course-after : (k : ℕ) (s : Net) → after s (course k s) ≡ netRounds N M k s
   unfolding course rounds round run
   course-after zero s = refl
@@ -30,10 +31,6 @@ module _ (N M : ℕ) where
   unfolding course
   course-accepted zero s = tt
   course-accepted (suc k) s = accepted-append s (course k s) _ (course-accepted k s) (rw (course-after k s) (todo-accepted M (netRounds N M k s) N))
-
-  -- Every order ends where the rounds end.
-  pub ends-as-rounds : (s : Net) (l : List Pair) → Sound N M s → Accepted s l → Quiet (after s l) → after s l ≡ netRounds N M N s
-  ends-as-rounds s l ok a still = same-end s l (course N s) a (course-accepted N s) still (rw (course-after N s) (rounds-quiet N M s ok)) ∙ course-after N s
 
   -- No list of accepted forwards is longer than one that ends with nothing pending.
   pub no-longer : (s : Net) (l r : List Pair) → Sound N M s → Accepted s l → Accepted s r → Quiet (after s r) → length l ≤ length r
@@ -45,7 +42,7 @@ module _ (N M : ℕ) where
       let same : after s (l ++ c) ≡ after s r = same-end s (l ++ c) r d b (rw e (rounds-quiet N M t (sound-after s l ok a))) calm in
       omega (arith, ap (λ (u : Net). unseenPairs N M u) same, run-counts N M s (l ++ c) ok d, run-counts N M s r ok b, length-append l c)
 
-  -- A round in a quiet network does nothing.
+  -- A round in a quiet network has nothing to do.
   quiet-row : (s : Net) → Quiet s → (p k : ℕ) → row s p k ≡ []
   unfolding row
   quiet-row s still p zero = refl
@@ -55,10 +52,6 @@ module _ (N M : ℕ) where
   unfolding todo
   quiet-todo s still zero = refl
   quiet-todo s still (suc k) = rw (quiet-todo s still k, quiet-row s still k M)
-
-  pub quiet-round : (s : Net) → Quiet s → netRound N M s ≡ s
-  unfolding run round
-  quiet-round s still = rw (quiet-todo s still N)
 
   module _ (s : Net) (ok : Sound N M s) where
     -- What is seen after k rounds and was not at the start has a shortest chain of fewer than k links.

@@ -8,7 +8,6 @@ use native.Mathlib.Omega.{arith}
 use lib.Dec.{leb}
 use borrow.Author.Tests.{leb-true, leb-false}
 use lib.ListN.{length, take, length-append, length-take}
-use Rattle.sets.specs.Bools.{clash}
 use Rattle.flooding.specs.Network.{Net, Quiet}
 use Rattle.flooding.specs.Counts.{unseenPairs}
 use Rattle.flooding.specs.Machine.{Pair, pair, run, Accepts, due, round, rounds, Drained, stopped, more, cut, drain, Machine}
@@ -29,6 +28,7 @@ ways (suc n) b = inr (first (leb (suc n) b) refl)
     first true e = inl (omega arith, leb-true (suc n) b e)
     first false e = inr (leb-false (suc n) b e)
 
+-- Nothing is below 0.
 none : {j : ℕ} → j < 0 → ⊥
 none h = omega arith
 
@@ -55,13 +55,6 @@ module _ {S : Type 0} (view : S → Net) (fwd : S → ℕ → ℕ → S) where
   accepts-take (suc n) s [] a = tt
   accepts-take (suc n) s (pair p m ∷ l) a = (a .0, accepts-take n (fwd s p m) l (a .1))
 
-  -- After n forwards of a longer accepted list, the next is pending.
-  next-pending : (n : ℕ) (s : S) (l : List Pair) → n < length l → Accepts view fwd s l → Quiet (view (run fwd s (take n l))) → ⊥
-  unfolding run
-  next-pending n s [] h a q = omega arith
-  next-pending zero s (pair p m ∷ l) h a q = clash (a .0) (q p m)
-  next-pending (suc n) s (pair p m ∷ l) h a q = next-pending n (fwd s p m) l (omega arith) (a .1) q
-
   -- One round, and then k.
   pub rounds-shift : (N M k : ℕ) (s : S) → rounds view fwd N M k (round view fwd N M s) ≡ rounds view fwd N M (suc k) s
   unfolding rounds
@@ -76,6 +69,7 @@ module _ {S : Type 0} (view : S → Net) (fwd : S → ℕ → ℕ → S) (N M : 
   pub due-some : (s : S) → Quiet (view s) → length (due N M (view s)) ≡ 0
   due-some s still = rw (quiet-todo N M (view s) still N)
 
+  -- A drain with nothing to do.
   idle : (b fuel : ℕ) (s : S) → Quiet (view s) → Drains view fwd N M s b fuel (stopped s)
   unfolding rounds run
   idle b fuel s still =

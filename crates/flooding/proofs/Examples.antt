@@ -29,6 +29,7 @@ answer b =
     let r = drain itself forward 32 64 32 b line in
     (r .forwards, r .rounds)
 
+-- With budget 2,048; 2; 0.
 pub a11-enough : answer 2048 ≡ (3, 3)
 unfolding drain round run forward todo row
 a11-enough = refl

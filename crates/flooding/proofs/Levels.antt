@@ -26,6 +26,7 @@ module _ (N M : ℕ) where
     pub pending-why : (q m : ℕ) → (netRounds N M k s) .pending q m ≡ true → Shortest s m q k
     pub pending-yes : (q m : ℕ) → Shortest s m q k → (netRounds N M k s) .pending q m ≡ true
 
+  -- At the start the holders are pending, at 0 links.
   start : (s : Net) → Level s zero
   unfolding rounds
   start s =
@@ -41,6 +42,7 @@ module _ (N M : ℕ) where
       none d b = omega arith
 
   module _ (s : Net) (ok : Sound N M s) where
+    -- One round more: the desks that were pending have seen it, and those that they link to are pending.
     next : (k : ℕ) → Level s k → Level s (suc k)
     unfolding rounds
     next k ih =

@@ -19,6 +19,7 @@ netRound N M s = round itself forward N M s
 abbrev pub netRounds : ℕ → ℕ → ℕ → Net → Net
 netRounds N M k s = rounds itself forward N M k s
 
+-- A list after another: its pairs, its run, its acceptance.
 pub mem-append : (l r : List Pair) (q n : ℕ) → mem (l ++ r) q n ≡ (mem l q n || mem r q n)
 unfolding mem
 mem-append [] r q n = refl
@@ -53,6 +54,7 @@ one-yes : (s : Net) (p k : ℕ) → s .pending p k ≡ true → mem (cond (s .pe
 unfolding mem
 one-yes s p k h = rw (h, eqb-same p, eqb-same k)
 
+-- A row has the pairs of p that are pending, and no others; so has the list of all rows.
 pub row-why : (s : Net) (p k q n : ℕ) → mem (row s p k) q n ≡ true → (q ≡ p) × (n < k) × (s .pending p n ≡ true)
 unfolding mem row
 row-why s p zero q n h = clash h refl
@@ -101,7 +103,7 @@ todo-yes M s (suc k) q n h b w = mem-append (todo M s k) _ q n ∙ first (below-
 pub still-pending : (s : Net) (l : List Pair) (q n : ℕ) → s .pending q n ≡ true → mem l q n ≡ false → (after s l) .pending q n ≡ true
 still-pending s l q n w e = after-pending s l q n ∙ rw (e, w)
 
--- A round's forwards are all accepted.
+-- A round's forwards are all accepted: each pair is still pending when its turn comes.
 row-accepted : (s : Net) (l : List Pair) (p k : ℕ) → ((n : ℕ) → mem l p n ≡ false) → Accepted (after s l) (row s p k)
 unfolding row
 row-accepted s l p zero new = tt

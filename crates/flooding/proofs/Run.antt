@@ -42,6 +42,7 @@ unfolding run forward
 after-known s [] = refl
 after-known s (pair p m ∷ l) = after-known (forward s p m) l
 
+-- Seen after the list: seen before, or forwarded in it.
 seen-alg : (s a r : Bool) → ((s || a) || r) ≡ (s || (a || r))
 seen-alg true a r = refl
 seen-alg false a r = refl
@@ -62,6 +63,7 @@ pending-alg false false false true e f = refl
 pending-alg false false false false true f = refl
 pending-alg false false false false false f = refl
 
+-- Pending after the list: not forwarded in it, and pending before or fed by it unless seen.
 pub after-pending : (s : Net) (l : List Pair) (q n : ℕ) → (after s l) .pending q n ≡ (not (mem l q n) && (s .pending q n || (not (s .seen q n) && feeds (link s) l q n)))
 unfolding run forward mem feeds
 after-pending s [] q n = simp (and-false, or-false)

@@ -55,6 +55,7 @@ unfolding todo pendingPairs sum
 due-length zero M s = refl
 due-length (suc N) M s = length-append (todo M s N) (row s N M) ∙ rw (due-length N M s, row-length s N M)
 
+-- The rest of a row, and of the list of all rows.
 row-split : (s : Net) (p m k : ℕ) → m ≤ k → (r : List Pair) × (row s p k ≡ row s p m ++ r)
 unfolding row
 row-split s p m k h = le-ind (λ j. (r : List Pair) × (row s p j ≡ row s p m ++ r)) ([], sym (append-nil (row s p m))) step k h

@@ -8,6 +8,7 @@ use lib.Dec.{eqb, leb}
 use lib.ListN.{length, take}
 use Rattle.flooding.specs.Network.{Net, Sound, forward}
 
+-- A network shows itself.
 abbrev pub itself : Net → Net
 itself s = s
 

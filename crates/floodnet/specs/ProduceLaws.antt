@@ -6,10 +6,10 @@ use Prim.Native.Nat.{ℕ, _^_, _≤_, _<_}
 use native.Mathlib.Omega.{arith}
 use native.Mathlib.Decide.{decLt}
 use lib.Dec.{eqb}
-use lib.ListN.{length, length-set}
+use lib.ListN.{length-set}
 use borrow.Author.Tests.{eqb-true, eq-eqb}
-use Rattle.sets.specs.Set.{has, union, only, sift}
-use Rattle.sets.specs.Bools.{clash, not-false, and-both, and-yes, and-no, and-fails, or-yes, or-no}
+use Rattle.sets.specs.Set.{has, union, only}
+use Rattle.sets.specs.Bools.{clash, not-false, and-yes, and-no, and-fails, or-yes, or-no}
 use Rattle.sets.specs.Members.{has-none}
 use Rattle.sets.specs.Bounds.{has-out, union-lt, only-lt}
 use Rattle.sets.specs.Build.{has-sift, sift-lt}

@@ -1,8 +1,8 @@
 -- A list of sets after a store or an edit, read one member at a time, and the bounds that it keeps: `getD l j 0` is the set at place j, and
 -- every law holds past the end of the list too, unless it says otherwise. Then: what keeps a network sound whose pending and seen messages
 -- change. Assumes nothing.
-use mathlib.Core.Path.{_≡_, refl, sym, ap, _∙_}
-use mathlib.Core.Bool.{Bool, true, false, not, cond, _&&_, _||_, and-true, or-false}
+use mathlib.Core.Path.{_≡_, sym, ap, _∙_}
+use mathlib.Core.Bool.{true, false, not, cond, _&&_, _||_, and-true, or-false}
 use mathlib.Core.List.{List}
 use Prim.Native.Nat.{ℕ, _^_, _≤_, _<_}
 use native.Mathlib.Omega.{arith}

@@ -2,3 +2,10 @@ pub mod Produce
 pub mod Forward
 pub mod Topics
 pub mod Links
+pub mod SoundBase
+pub mod ProduceLaws
+pub mod ForwardLaws
+pub mod View
+pub mod ViewLaws
+pub mod ViewCounts
+pub mod ViewFloods

@@ -2,3 +2,5 @@ pub mod Produce
 pub mod Forward
 pub mod Topics
 pub mod Links
+pub mod Places
+pub mod TopicsLaws

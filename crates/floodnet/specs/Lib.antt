@@ -4,3 +4,4 @@ pub mod Topics
 pub mod Links
 pub mod Places
 pub mod TopicsLaws
+pub mod LinksLaws

@@ -5,3 +5,5 @@ pub mod Links
 pub mod Places
 pub mod TopicsLaws
 pub mod LinksLaws
+pub mod Records
+pub mod LeaveJoin

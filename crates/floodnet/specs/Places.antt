@@ -84,6 +84,35 @@ getD-set l p q v h = go (eqb q p) refl
     go true e = ap (λ (x : ℕ). getD (set l p v) x 0) (eqb-true q p e) ∙ getD-set-same l p v 0 h
     go false e = getD-set-other l p q v 0 (eqb-false q p e)
 
+-- What stands at q once 0 is stored at p.
+pub zeroed : (l : List ℕ) (p q : ℕ) → getD (set l p 0) q 0 ≡ keepIf (not (eqb q p)) (getD l q 0)
+unfolding keepIf
+zeroed l p q = first (decLt p (length l))
+  where
+    at : (b : Bool) → cond b 0 (getD l q 0) ≡ keepIf (not b) (getD l q 0)
+    at true = refl
+    at false = refl
+
+    out : length l ≤ p → (b : Bool) → eqb q p ≡ b → getD l q 0 ≡ keepIf (not b) (getD l q 0)
+    out o true e = ap (λ (x : ℕ). getD l x 0) (eqb-true q p e) ∙ List·getD-eq-default l 0 o
+    out o false e = refl
+
+    first : Dec (p < length l) → getD (set l p 0) q 0 ≡ keepIf (not (eqb q p)) (getD l q 0)
+    first (yes h) = getD-set l p q 0 h ∙ at (eqb q p)
+    first (no h) = ap (λ (x : List ℕ). getD x q 0) (set-out l p 0 (omega arith)) ∙ out (omega arith) (eqb q p) refl
+
+-- A member of what stands there: none at p.
+pub has-zeroed : (l : List ℕ) (p q i : ℕ) → has (getD (set l p 0) q 0) i ≡ not (eqb q p) && has (getD l q 0) i
+has-zeroed l p q i = ap (λ (w : ℕ). has w i) (zeroed l p q) ∙ has-keepIf (not (eqb q p)) (getD l q 0) i
+
+-- A member of what stands at q once v is stored at p.
+pub has-set : (l : List ℕ) (p q v i : ℕ) → p < length l → has (getD (set l p v) q 0) i ≡ cond (eqb q p) (has v i) (has (getD l q 0) i)
+has-set l p q v i h = ap (λ (w : ℕ). has w i) (getD-set l p q v h) ∙ at (eqb q p)
+  where
+    at : (b : Bool) → has (cond b v (getD l q 0)) i ≡ cond b (has v i) (has (getD l q 0) i)
+    at true = refl
+    at false = refl
+
 -- A bound on every number, past the end too.
 pub set-below : (l : List ℕ) (p v b : ℕ) → v < b → ((i : ℕ) → getD l i 0 < b) → (i : ℕ) → getD (set l p v) i 0 < b
 set-below l p v b hv h i = first (decLt p (length l))

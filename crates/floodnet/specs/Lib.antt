@@ -7,3 +7,4 @@ pub mod TopicsLaws
 pub mod LinksLaws
 pub mod Records
 pub mod LeaveJoin
+pub mod Accident

@@ -2,7 +2,7 @@
 use Prim.Native.Nat.{ℕ, zero, suc, _+_, _/_, _%_, _^_, _≤_, _<_}
 use native.Mathlib.Omega.{arith}
 use native.Mathlib.Decide.{ℕ-discrete}
-use mathlib.Core.Path.{_≡_, refl, sym, ap, _∙_}
+use mathlib.Core.Path.{_≡_, refl, sym, _∙_}
 use mathlib.Core.List.{List}
 use lib.ListN.{length, getD, set, length-set}
 use lib.Seq.{getD-set-same, getD-set-other, set-getD, ext-getD}
@@ -59,11 +59,12 @@ head-put l at f h =
     let n₁ = length-set l at (f .code) in
     let n₂ = length-set l₁ (at + 1) (f .peer) in
     let n₃ = length-set l₂ (at + 2) (f .message) in
-    let past : (m : List ℕ) (k v i : ℕ) → i < k → getD (set m k v) i 0 ≡ getD m i 0 = λ m k v i b. getD-set-other m k i v 0 (λ e. omega arith) in
-    (past l₃ (at + 3) (f .zero) at (omega arith) ∙ (past l₂ (at + 2) (f .message) at (omega arith) ∙ (past l₁ (at + 1) (f .peer) at (omega arith) ∙ getD-set-same l at (f .code) 0 (omega arith))),
-    past l₃ (at + 3) (f .zero) (at + 1) (omega arith) ∙ (past l₂ (at + 2) (f .message) (at + 1) (omega arith) ∙ getD-set-same l₁ (at + 1) (f .peer) 0 (omega arith)),
-    past l₃ (at + 3) (f .zero) (at + 2) (omega arith) ∙ getD-set-same l₂ (at + 2) (f .message) 0 (omega arith),
-    getD-set-same l₃ (at + 3) (f .zero) 0 (omega arith))
+    let past : (m : List ℕ) (k v i : ℕ) → i < k → getD (set m k v) i 0 ≡ getD m i 0 = λ m k v i b. getD-set-other m k i v 0 (λ e. omega arith) in (
+      past l₃ (at + 3) (f .zero) at (omega arith) ∙ (past l₂ (at + 2) (f .message) at (omega arith) ∙ (past l₁ (at + 1) (f .peer) at (omega arith) ∙ getD-set-same l at (f .code) 0 (omega arith))),
+      past l₃ (at + 3) (f .zero) (at + 1) (omega arith) ∙ (past l₂ (at + 2) (f .message) (at + 1) (omega arith) ∙ getD-set-same l₁ (at + 1) (f .peer) 0 (omega arith)),
+      past l₃ (at + 3) (f .zero) (at + 2) (omega arith) ∙ getD-set-same l₂ (at + 2) (f .message) 0 (omega arith),
+      getD-set-same l₃ (at + 3) (f .zero) 0 (omega arith),
+    )
 
 -- a word is not touched by a later one
 word-kept : (l : List ℕ) (k at x : ℕ) → at + 4 ≤ k → le 4 (putLe 4 l k x) at ≡ le 4 l at
@@ -79,10 +80,11 @@ words-put l at f h w =
     let l₂ = putLe 4 l₁ (at + 8) (f .pubs) in
     let n₀ = length-putHead l at f in
     let n₁ = length-putLe 4 l₀ (at + 4) (f .subs) in
-    let n₂ = length-putLe 4 l₁ (at + 8) (f .pubs) in
-    (word-kept l₂ (at + 12) (at + 4) (f .neighbours) (omega arith) ∙ (word-kept l₁ (at + 8) (at + 4) (f .pubs) (omega arith) ∙ le-putLe 4 l₀ (at + 4) (f .subs) (omega arith) (w .subs)),
-    word-kept l₂ (at + 12) (at + 8) (f .neighbours) (omega arith) ∙ le-putLe 4 l₁ (at + 8) (f .pubs) (omega arith) (w .pubs),
-    le-putLe 4 l₂ (at + 12) (f .neighbours) (omega arith) (w .neighbours))
+    let n₂ = length-putLe 4 l₁ (at + 8) (f .pubs) in (
+      word-kept l₂ (at + 12) (at + 4) (f .neighbours) (omega arith) ∙ (word-kept l₁ (at + 8) (at + 4) (f .pubs) (omega arith) ∙ le-putLe 4 l₀ (at + 4) (f .subs) (omega arith) (w .subs)),
+      word-kept l₂ (at + 12) (at + 8) (f .neighbours) (omega arith) ∙ le-putLe 4 l₁ (at + 8) (f .pubs) (omega arith) (w .pubs),
+      le-putLe 4 l₂ (at + 12) (f .neighbours) (omega arith) (w .neighbours),
+    )
 
 -- What was stored is found: all the fields.
 pub fields-put : (l : List ℕ) (at : ℕ) (f : Fields) → at + 16 ≤ length l → WordsFit f → fieldsAt (putFields l at f) at ≡ f

@@ -1,18 +1,18 @@
 -- Reading fields and laying an event out are inverse to each other. Assumes nothing.
-use Prim.Native.Nat.{ℕ, _<_}
+use Prim.Native.Nat.{ℕ, _≤_, _<_}
 use native.Mathlib.Omega.{arith}
-use mathlib.Core.Path.{_≡_, refl, sym, ap, subst, _∙_}
-use mathlib.Core.Bool.{Bool, true, false, _&&_}
-use lib.Dec.{ltb, eqb}
-use borrow.Author.Tests.{lt-ltb, ltb-true, eqb-true}
+use mathlib.Core.Path.{_≡_, refl, sym, subst}
+use mathlib.Core.Logic.{_⊎_, inl, inr}
+use mathlib.Core.Bool.{Bool, true, false}
+use lib.Dec.{eqb}
+use borrow.Author.Tests.{lt-ltb, ltb-true, eqb-true, ne-eqb}
 use Rattle.sets.specs.Bools.{and-yes}
-use Rattle.network.specs.Network.{peer, message}
 use Rattle.events.specs.declared.Fields.{Fields}
 use Rattle.events.specs.declared.Event.{Event}
 use Rattle.events.specs.declared.Event.the-variants.{Skip, Produce, Forward, Subscribe, Unsubscribe, Leave, Join}
 use Rattle.events.specs.declared.Read.{Read}
 use Rattle.events.specs.declared.Read.the-variants.{Taken, End, Refused}
-use Rattle.events.specs.Event.{noMore, noSets, noMessage, skipOk, pairOk, topicsOk, leaveOk, joinOk, joiningOf, pickRead, orSeven, decodeOf}
+use Rattle.events.specs.Event.{noMore, noSets, noMessage, skipOk, pairOk, topicsOk, leaveOk, joinOk, pickRead, orSeven, decodeOf}
 use Rattle.events.specs.Writing.{fieldsMk, fieldsOf}
 use Rattle.events.specs.Fits.{EventFits, Small}
 
@@ -129,3 +129,33 @@ decode-gave f e =
     (pick-taken (Gave f e) _ _ _ e (λ k h. gives f _ _ e h (λ t. let y = leave-yes f (eqb-true _ _ k) t in record { fields = y .1; small = y .0 }))
     (pick-taken (Gave f e) _ _ _ e (λ k h. gives f _ _ e h (λ t. let y = join-yes f (eqb-true _ _ k) t in record { fields = y .1; small = y .0 }))
     (λ h. let z : _≡_ {A = ℕ} 0 1 = cc in absurd (omega arith))))))))
+
+-- a record is always judged: an event, or refused by 6 or 7
+unfoldable pub Judged : Read → Type 0
+Judged (Taken e) = Unit {0}
+Judged End = ⊥
+Judged (Refused n) = (n ≡ 6) ⊎ (n ≡ 7)
+
+judged-pick : (b : Bool) (x y : Read) → Judged x → Judged y → Judged (pickRead b x y)
+unfolding pickRead
+judged-pick true x y h k = h
+judged-pick false x y h k = k
+
+judged-seven : (b : Bool) (e : Event) → Judged (orSeven b e)
+unfolding orSeven Judged
+judged-seven true e = tt
+judged-seven false e = inr refl
+
+pub decode-judged : (f : Fields) → Judged (decodeOf f)
+unfolding decodeOf Judged
+decode-judged f =
+    judged-pick _ _ _ (judged-seven _ _) (judged-pick _ _ _ (judged-seven _ _) (judged-pick _ _ _ (judged-seven _ _)
+    (judged-pick _ _ _ (judged-seven _ _) (judged-pick _ _ _ (judged-seven _ _) (judged-pick _ _ _ (judged-seven _ _)
+    (judged-pick _ _ _ (judged-seven _ _) (inl refl)))))))
+
+-- "Codes 7 to 255 are refused", by 6, whatever the other bytes are
+pub unknown-code : (f : Fields) → 7 ≤ f .code → decodeOf f ≡ Refused 6
+unfolding decodeOf pickRead
+unknown-code f h =
+    let n : (k : ℕ) → k < 7 → eqb (f .code) k ≡ false = λ k l. ne-eqb (f .code) k (λ e. omega arith) in
+    simp (n 0 (omega arith), n 1 (omega arith), n 2 (omega arith), n 3 (omega arith), n 4 (omega arith), n 5 (omega arith), n 6 (omega arith))

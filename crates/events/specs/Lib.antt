@@ -4,3 +4,4 @@ pub mod Fits
 pub mod Decoded
 pub mod Bytes
 pub mod RoundTrip
+pub mod Settled

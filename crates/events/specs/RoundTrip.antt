@@ -2,7 +2,6 @@
 use Prim.Native.Nat.{ℕ, _*_, _/_, _≤_, _<_}
 use native.Mathlib.Omega.{arith}
 use mathlib.Core.Path.{_≡_, refl, sym, ap, subst, _∙_}
-use mathlib.Core.Logic.{_⊎_, inl, inr}
 use mathlib.Core.Bool.{Bool, true, false}
 use mathlib.Core.List.{List}
 use lib.Dec.{ltb}
@@ -10,12 +9,11 @@ use lib.ListN.{length, replicate}
 use borrow.Author.Tests.{lt-ltb, le-ltb, ltb-true}
 use Rattle.events.specs.declared.Fields.{Fields}
 use Rattle.events.specs.declared.Event.{Event}
-use Rattle.events.specs.declared.Read.{Read}
-use Rattle.events.specs.declared.Read.the-variants.{Taken, End, Refused}
+use Rattle.events.specs.declared.Read.the-variants.{Taken, End}
 use Rattle.events.specs.Event.{pickRead, decodeOf, fieldsAt, readAt}
 use Rattle.events.specs.Writing.{fieldsOf, putFields, recordOf, pickBytes, writtenAt}
 use Rattle.events.specs.Fits.{EventFits, WordsFit, small-fits, fits-words}
-use Rattle.events.specs.Decoded.{decode-fields, decode-gave}
+use Rattle.events.specs.Decoded.{decode-fields, decode-gave, Judged, decode-judged}
 use Rattle.events.specs.Bytes.{Bytes, words-fit, length-putFields, fields-put, put-fields, same-record}
 
 -- before the end, the record at the place decides; from there on, the end
@@ -26,6 +24,10 @@ read-inside l place h = simp (lt-ltb _ _ h)
 pub read-outside : (l : List ℕ) (place : ℕ) → length l / 16 ≤ place → readAt l place ≡ End
 unfolding readAt pickRead
 read-outside l place h = simp (le-ltb _ _ h)
+
+-- before the end there is an event, or a refusal by 6 or 7
+pub read-judged : (l : List ℕ) (place : ℕ) → place < length l / 16 → Judged (readAt l place)
+read-judged l place h = rw (read-inside l place h) (decode-judged _)
 
 -- an event that was taken stood before the end, in a record that reads as it
 pub read-taken : (l : List ℕ) (place : ℕ) (e : Event) → readAt l place ≡ Taken e → (place < length l / 16) × (decodeOf (fieldsAt l (place * 16)) ≡ Taken e)

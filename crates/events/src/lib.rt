@@ -15,7 +15,6 @@ ghost use lib.ListN.{length};
 ghost use lib.Dec.{ltb};
 ghost use Rattle.events.specs.Event.{noMore, noSets, noMessage, skipOk, pairOk, topicsOk, leaveOk, joinOk, orSeven, decodeOf, fieldsAt, readAt, placeAfter, readingOf, joiningOf};
 ghost use Rattle.events.specs.Writing.{fieldsMk, fieldsOf, putHead, putFields, recordOf, writtenAt};
-
 use network::Message;
 use network::Peer;
 

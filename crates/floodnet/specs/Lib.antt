@@ -17,3 +17,4 @@ pub mod LinksLaws
 pub mod Records
 pub mod LeaveJoin
 pub mod Accident
+pub mod StepLaws

@@ -127,7 +127,7 @@ effect-pairs {n} {b} s r Skip f h = refl
 effect-pairs {n} {b} s r (Produce p m) f h =
     let x = produce-met n b p m h in
     omega (arith, produced-pairs (s .shaped) p m (f .0) (new-why (s .shaped) m (x .3) p (x .0) .0))
-effect-pairs {n} {b} s r (Forward p m) f h = omega (arith, forwarded-pairs s b p m (forward-met n p m h .1))
+effect-pairs {n} {b} s r (Forward p m) f h = omega (arith, forwarded-pairs s r p m (forward-met n p m h .1))
 effect-pairs {n} s r (Subscribe p topics) f h = same-pairs n _ (subscribe-keeps n p topics)
 effect-pairs {n} s r (Unsubscribe p topics) f h = same-pairs n _ (unsubscribe-keeps n p topics)
 effect-pairs {n} s r (Leave p) f h = same-pairs n _ (left-pending n p (leave-met n p h .1))

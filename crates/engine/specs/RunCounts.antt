@@ -1,5 +1,6 @@
 -- What a run counts (document 01): "Produced and forwards are the accepted events of those kinds". Assumes nothing.
 use mathlib.Core.Path.{_≡_, refl, sym, ap, _∙_}
+use mathlib.Core.Logic.{_⊎_, inl, inr}
 use mathlib.Core.Bool.{Bool, true, false, cond}
 use mathlib.Core.List.{List}
 use Prim.Native.Nat.{ℕ, zero, suc, _+_, _-_, _*_, _≤_, _<_}
@@ -48,7 +49,7 @@ accepted-kind b n End h = refl
 accepted-kind b n (Refused k) h = refl
 
 -- the counts of a tally after an event of a kind
-tallied-produced : (t : Tally) (kind d : ℕ) → talliedOf t kind d .produced ≡ t .produced + digit (eqb kind 1)
+pub tallied-produced : (t : Tally) (kind d : ℕ) → talliedOf t kind d .produced ≡ t .produced + digit (eqb kind 1)
 unfolding talliedOf
 tallied-produced t kind d = first (eqb kind 1) (eqb kind 2)
   where
@@ -59,7 +60,7 @@ tallied-produced t kind d = first (eqb kind 1) (eqb kind 2)
     first false true = omega arith
     first false false = omega arith
 
-tallied-forwards : (t : Tally) (kind d : ℕ) → talliedOf t kind d .forwards ≡ t .forwards + digit (eqb kind 2)
+pub tallied-forwards : (t : Tally) (kind d : ℕ) → talliedOf t kind d .forwards ≡ t .forwards + digit (eqb kind 2)
 unfolding talliedOf
 tallied-forwards t kind d = first (eqb kind 1) refl (eqb kind 2) refl
   where
@@ -73,6 +74,19 @@ tallied-forwards t kind d = first (eqb kind 1) refl (eqb kind 2) refl
     first true e false z = omega arith
     first false e true z = refl
     first false e false z = omega arith
+
+-- only a forward delivers, so that the tally has all deliveries
+pub tallied-deliveries : (t : Tally) (kind d : ℕ) → (kind ≡ 2) ⊎ (d ≡ 0) → talliedOf t kind d .deliveries ≡ t .deliveries + d
+unfolding talliedOf
+tallied-deliveries t kind d (inl e) = rw e
+tallied-deliveries t kind d (inr e) = first (eqb kind 1) (eqb kind 2)
+  where
+    first : (x y : Bool)
+        → (cond x (record { produced = t .produced + 1; forwards = t .forwards; deliveries = t .deliveries })
+        (cond y (record { produced = t .produced; forwards = t .forwards + 1; deliveries = t .deliveries + d }) t)) .deliveries ≡ t .deliveries + d
+    first true y = omega arith
+    first false true = refl
+    first false false = omega arith
 
 -- The tally of a run of k events: what it began with, and how many of the accepted events are of each kind.
 pub record Counts (ev : List ℕ) (k place : ℕ) (n : Network) (t : Tally) (f : Final) : Type 0 where

@@ -1,24 +1,23 @@
 -- Leave and join in observations: what each changes, and that a sound network stays sound. Assumes nothing.
 use mathlib.Core.Path.{_≡_, refl, sym, ap, ap₂, _∙_}
-use mathlib.Core.Bool.{Bool, true, false, not, cond, _&&_, _||_, and-true, and-false, and-comm, and-assoc, and-not-self}
+use mathlib.Core.Bool.{Bool, true, false, not, cond, _&&_, _||_, and-true, and-false, and-not-self}
 use Prim.Native.Nat.{ℕ, _^_, _<_}
 use borrow.Author.Tests.{eqb-true}
 use lib.Dec.{eqb}
-use lib.ListN.{getD}
-use Rattle.sets.specs.Set.{has, union, minus, only, Subset}
-use Rattle.sets.specs.Bools.{and-both, and-yes, and-no, eqb-same, or-right}
+use Rattle.sets.specs.Set.{has, union, minus, only}
+use Rattle.sets.specs.Bools.{and-both, and-no, eqb-same, or-right}
 use Rattle.sets.specs.Members.{has-with}
 use Rattle.sets.specs.Subsets.{subset-of-minus, minus-of-subset, subset-trans, subset-union}
 use Rattle.network.specs.declared.Peer.{Peer}
 use Rattle.network.specs.declared.Topic.{Topic}
 use Rattle.network.specs.declared.Message.{Message}
 use Rattle.network.specs.declared.Network.{Network}
-use Rattle.network.specs.Network.{neighboursOf, present, publishes, subscribed, linked, pending, saw, knows, Shaped}
+use Rattle.network.specs.Network.{neighboursOf, present, publishes, subscribed, linked, pending, saw, knows}
 use Rattle.network.specs.Sound.{Sound, Empty}
-use Rattle.floodnet.specs.Links.{linkUp, linkDown, cleared, placed, left, joined}
+use Rattle.floodnet.specs.Links.{linkUp, linkDown, placed, left, joined}
 use Rattle.floodnet.specs.Places.{linked-turn}
-use Rattle.floodnet.specs.LinksLaws.{between, linkUp-sound, linkDown-sound, linked-up-all, linked-down-all, knows-up, SameButLinks, up-rest, down-rest}
-use Rattle.floodnet.specs.Records.{present-cleared, publishes-cleared, subscribed-cleared, linked-cleared, pending-cleared, saw-cleared, cleared-sound, cleared-absent, present-placed, publishes-placed, subscribed-placed, placed-shaped, placed-sound, SameButPlace, placed-rest}
+use Rattle.floodnet.specs.LinksLaws.{between, linkUp-sound, linkDown-sound, linked-up-all, linked-down-all}
+use Rattle.floodnet.specs.Records.{present-cleared, publishes-cleared, subscribed-cleared, linked-cleared, pending-cleared, saw-cleared, cleared-sound, cleared-absent, present-placed, publishes-placed, subscribed-placed, placed-shaped, placed-sound}
 
 -- ---- leave
 

@@ -4,28 +4,29 @@ use mathlib.Core.Path.{_≡_, refl, sym, ap, ap₂, _∙_}
 use mathlib.Core.Logic.{_⊎_, inl, inr, ⊎-elim}
 use mathlib.Core.Bool.{Bool, true, false, not, _&&_, _||_, and-true, and-false, and-comm, or-false, or-comm, or-assoc, or-self, and-assoc, and-or-distrib-right}
 use mathlib.Core.List.{List}
-use Prim.Native.Nat.{ℕ, _+_, _*_, _/_, _%_, _^_, _≤_, _<_}
+use Prim.Native.Nat.{ℕ, _^_, _≤_, _<_}
 use native.Mathlib.Omega.{arith}
 use native.Mathlib.Decide.{decLt}
-use borrow.Author.Tests.{eqb-true, eqb-false}
+use borrow.Author.Tests.{eqb-true}
 use lib.Dec.{eqb}
 use lib.ListN.{length, getD}
-use Rattle.sets.specs.Set.{has, union, minus, only, withIf, sift, Subset}
-use Rattle.sets.specs.Bools.{either, clash, not-false, bool-ext, not-yes, and-both, and-yes, and-no, or-left, or-right, or-yes, ne-eqb, and-eqb}
+use Rattle.sets.specs.Set.{has, minus, withIf, sift, Subset}
+use Rattle.sets.specs.Bools.{clash, not-false, and-yes, and-no, or-yes, ne-eqb, and-eqb}
 use Rattle.sets.specs.Members.{has-none}
-use Rattle.sets.specs.Bounds.{has-in, has-out}
+use Rattle.sets.specs.Bounds.{has-out}
 use Rattle.sets.specs.Build.{has-withIf, withIf-lt, has-sift, sift-lt}
 use Rattle.sets.specs.Lowest.{none-empty}
 use Rattle.sets.specs.Subsets.{subset-of-minus}
-use Rattle.lists.specs.Edit.{edit, length-edit, getD-edit, getD-edit-out, edit-below}
+use Rattle.lists.specs.Edit.{length-edit, getD-edit, getD-edit-out, edit-below}
 use Rattle.network.specs.declared.Peer.{Peer}
 use Rattle.network.specs.declared.Topic.{Topic}
 use Rattle.network.specs.declared.Network.{Network}
-use Rattle.network.specs.Network.{mk, peer, topic, spot, subsOf, neighboursOf, knownOf, present, linked, subscribed, knows, Shaped}
-use Rattle.network.specs.Sound.{Sound, Empty}
+use Rattle.network.specs.Network.{mk, peer, topic, subsOf, neighboursOf, knownOf, present, linked, subscribed, knows, Shaped}
+use Rattle.network.specs.Sound.{Sound}
+use Rattle.network.specs.SoundLaws.{linked-peer}
 use Rattle.floodnet.specs.Topics.{withoutIf}
 use Rattle.floodnet.specs.Links.{unionIf, minusIf, linkUp, linkDown}
-use Rattle.floodnet.specs.Places.{has-withoutIf, has-unionIf, has-minusIf, withoutIf-lt, unionIf-lt, minusIf-lt, eqb-turn, edit-spot, links-out, linked-turn}
+use Rattle.floodnet.specs.Places.{has-withoutIf, has-unionIf, has-minusIf, withoutIf-lt, unionIf-lt, minusIf-lt, eqb-turn, edit-spot, linked-turn}
 
 -- One of a and c is p, and the other is of `who`: the link is one of those that are recorded or forgotten.
 abbrev pub between : Peer → ℕ → Peer → Peer → Bool
@@ -118,7 +119,7 @@ knows-down {n} s p who a t c ha ht =
 
 -- The two laws of links for every number a, also one that is no peer's.
 past : {n : Network} → Shaped n → (a c : Peer) → 32 ≤ a .0 → linked n a c ≡ false
-past s a c h = ap (λ (w : ℕ). has w (c .0)) (links-out s a h) ∙ has-none (c .0)
+past s a c h = not-false λ e. absurd (omega (arith, linked-peer s a c e))
 
 no-side : (p : Peer) (who : ℕ) (a c : Peer) → p .0 < 32 → who < 2 ^ 32 → 32 ≤ a .0 → between p who a c ≡ false
 no-side p who a c hp hw h =

@@ -5,20 +5,20 @@ use mathlib.Core.Bool.{Bool, true, false, not, cond, _&&_, _||_, and-true, or-fa
 use mathlib.Core.List.{List}
 use Prim.Native.Nat.{ℕ, _+_, _*_, _/_, _%_, _^_, _≤_, _<_}
 use native.Mathlib.Omega.{arith}
-use native.Mathlib.Decide.{decLt, ℕ-discrete}
+use native.Mathlib.Decide.{decLt}
 use borrow.Author.Tests.{eqb-true, eqb-false}
 use lib.Dec.{eqb}
-use lib.ListN.{length, getD, set, length-set, List·getD-eq-default}
+use lib.ListN.{length, getD, set, List·getD-eq-default}
 use lib.Seq.{getD-set-same, getD-set-other, set-out}
-use Rattle.sets.specs.Set.{has, union, minus, only, withIf}
-use Rattle.sets.specs.Bools.{clash, bool-ext, eqb-same}
-use Rattle.sets.specs.Members.{has-union, has-minus, has-only, has-none, members}
-use Rattle.sets.specs.Bounds.{has-out, has-in, union-lt, minus-lt}
+use Rattle.sets.specs.Set.{has, only}
+use Rattle.sets.specs.Bools.{bool-ext, eqb-same}
+use Rattle.sets.specs.Members.{has-union, has-minus, has-none, members}
+use Rattle.sets.specs.Bounds.{union-lt, minus-lt}
 use Rattle.lists.specs.Edit.{edit, getD-edit}
 use Rattle.network.specs.declared.Peer.{Peer}
 use Rattle.network.specs.declared.Topic.{Topic}
 use Rattle.network.specs.declared.Network.{Network}
-use Rattle.network.specs.Network.{peer, topic, neighboursOf, knownOf, present, linked, subscribed, knows, spot, Shaped}
+use Rattle.network.specs.Network.{linked, spot}
 use Rattle.network.specs.Sound.{Sound}
 use Rattle.floodnet.specs.Topics.{withoutIf}
 use Rattle.floodnet.specs.Links.{unionIf, minusIf, keepIf}
@@ -146,22 +146,7 @@ edit-spot f l q t e hq ht =
     ∙ ap (λ (x : ℕ). f x (spot q t % 32) (getD l (spot q t) 0)) (spot-row (q .0) (t .0) ht)
     ∙ ap (λ (x : ℕ). f (q .0) x (getD l (spot q t) 0)) (spot-column (q .0) (t .0) ht)
 
--- ---- links of a sound network
-
--- Past the last peer there is no link.
-pub links-out : {n : Network} → Shaped n → (p : Peer) → 32 ≤ p .0 → neighboursOf n p ≡ 0
-links-out {n} s p h = List·getD-eq-default (n .neighbours) 0 (omega (arith, s .neighbours))
-
--- Who lists a neighbour is a peer, and so is the neighbour.
-pub linked-from : {n : Network} → Shaped n → (p q : Peer) → linked n p q ≡ true → p .0 < 32
-linked-from {n} s p q e = first (decLt (p .0) 32)
-  where
-    first : Dec (p .0 < 32) → p .0 < 32
-    first (yes c) = c
-    first (no c) = clash e (ap (λ (w : ℕ). has w (q .0)) (links-out s p (omega arith)) ∙ has-none (q .0))
-
-pub linked-to : {n : Network} → Shaped n → (p q : Peer) → linked n p q ≡ true → q .0 < 32
-linked-to {n} s p q e = has-in 32 (neighboursOf n p) (q .0) (s .neighbours-fit (p .0)) e
+-- ---- links of a sound network (more of them: network, specs/SoundLaws.antt)
 
 -- A link is listed on both sides or on none.
 pub linked-turn : {n : Network} → Sound n → (p q : Peer) → linked n p q ≡ linked n q p

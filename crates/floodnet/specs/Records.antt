@@ -1,33 +1,28 @@
 -- A peer's record that becomes zero, and one that is made: what each changes in observations, and when a sound network stays sound.
 -- Assumes nothing.
 use mathlib.Core.Path.{_≡_, refl, sym, ap, ap₂, _∙_}
-use mathlib.Core.Logic.{_⊎_, inl, inr, ⊎-elim}
-use mathlib.Core.Bool.{Bool, true, false, not, cond, _&&_, _||_, and-true, and-false, and-comm, or-false, or-comm, and-assoc}
+use mathlib.Core.Bool.{Bool, true, false, not, cond, _&&_, _||_, and-true, and-false}
 use mathlib.Core.List.{List}
-use Prim.Native.Nat.{ℕ, _+_, _*_, _/_, _%_, _^_, _≤_, _<_}
+use Prim.Native.Nat.{ℕ, _+_, _*_, _/_, _%_, _^_, _<_}
 use native.Mathlib.Omega.{arith}
-use native.Mathlib.Decide.{decLt}
 use borrow.Author.Tests.{eqb-true, eqb-false}
 use lib.Dec.{eqb}
-use lib.ListN.{length, getD, set, length-set, List·getD-eq-default}
-use lib.Seq.{getD-set-other, set-getD, set-out}
-use Rattle.sets.specs.Set.{has, union, minus, only, Subset}
-use Rattle.sets.specs.Bools.{either, clash, not-false, not-yes, and-both, and-yes, and-no, or-left, or-right, or-yes, or-no, ne-eqb, eqb-same}
-use Rattle.sets.specs.Members.{has-union, has-minus, has-only, has-none, has-with}
+use lib.ListN.{getD, set, length-set}
+use lib.Seq.{getD-set-other, set-getD}
+use Rattle.sets.specs.Set.{has, only}
+use Rattle.sets.specs.Bools.{clash, not-false, and-both, and-yes, and-no, or-left, or-no}
+use Rattle.sets.specs.Members.{has-union, has-minus, has-only}
 use Rattle.sets.specs.Bounds.{union-lt, minus-lt, only-lt}
-use Rattle.sets.specs.Lowest.{none-empty}
 use Rattle.sets.specs.Sizes.{without-stranger}
-use Rattle.sets.specs.Subsets.{subset-of-minus, minus-of-subset, subset-trans, subset-union}
-use Rattle.lists.specs.Edit.{edit, length-edit, edit-below, edit-none}
+use Rattle.lists.specs.Edit.{length-edit, edit-below, edit-none}
 use Rattle.network.specs.declared.Peer.{Peer}
 use Rattle.network.specs.declared.Topic.{Topic}
 use Rattle.network.specs.declared.Message.{Message}
 use Rattle.network.specs.declared.Network.{Network}
-use Rattle.network.specs.Network.{mk, peer, topic, spot, pubsOf, subsOf, neighboursOf, pendingOf, seenOf, knownOf, present, publishes, subscribed, linked, pending, saw, knows, Shaped}
+use Rattle.network.specs.Network.{mk, topic, neighboursOf, knownOf, present, publishes, subscribed, linked, pending, saw, knows, Shaped}
 use Rattle.network.specs.Sound.{Sound, Empty}
-use Rattle.floodnet.specs.Links.{keepIf, linkUp, linkDown, cleared, placed, left, joined}
-use Rattle.floodnet.specs.Places.{has-keepIf, keepIf-lt, eqb-turn, zeroed, has-zeroed, has-set, set-below, spot-of, edit-spot, linked-turn}
-use Rattle.floodnet.specs.LinksLaws.{between, linkUp-sound, linkDown-sound, linked-up-all, linked-down-all}
+use Rattle.floodnet.specs.Links.{keepIf, cleared, placed}
+use Rattle.floodnet.specs.Places.{has-keepIf, keepIf-lt, eqb-turn, zeroed, has-zeroed, has-set, set-below, edit-spot}
 
 -- ---- "record becomes zero"
 

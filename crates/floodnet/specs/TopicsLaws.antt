@@ -2,29 +2,30 @@
 -- nothing leave the network as it was. Assumes nothing.
 use mathlib.Core.Path.{_≡_, refl, sym, ap, ap₂, _∙_}
 use mathlib.Core.Logic.{_⊎_, inl, inr}
-use mathlib.Core.Bool.{Bool, true, false, not, cond, _&&_, _||_, and-true, and-false, and-comm, or-false, and-or-distrib-left}
+use mathlib.Core.Bool.{Bool, true, false, not, cond, _&&_, _||_, and-true, and-false, or-false}
 use mathlib.Core.List.{List}
-use Prim.Native.Nat.{ℕ, _+_, _*_, _/_, _%_, _^_, _≤_, _<_}
+use Prim.Native.Nat.{ℕ, _/_, _%_, _^_, _<_}
 use native.Mathlib.Omega.{arith}
-use borrow.Author.Tests.{eqb-true, eqb-false}
+use borrow.Author.Tests.{eqb-true}
 use lib.Dec.{eqb}
 use lib.ListN.{length, getD, set, length-set}
 use lib.Seq.{getD-set-other, set-getD}
-use Rattle.sets.specs.Set.{has, union, minus, only, withIf}
+use Rattle.sets.specs.Set.{has, union, minus, withIf}
 use Rattle.sets.specs.Bools.{either, clash, and-both, and-yes, or-right, and-eqb}
 use Rattle.sets.specs.Members.{has-union, has-minus, has-none}
-use Rattle.sets.specs.Bounds.{has-in, union-lt, minus-lt}
+use Rattle.sets.specs.Bounds.{union-lt, minus-lt}
 use Rattle.sets.specs.Build.{has-withIf, withIf-lt}
 use Rattle.sets.specs.Lowest.{none-empty}
 use Rattle.sets.specs.Sizes.{with-member, without-stranger}
-use Rattle.lists.specs.Edit.{edit, length-edit, edit-below, edit-none}
+use Rattle.lists.specs.Edit.{length-edit, edit-below, edit-none}
 use Rattle.network.specs.declared.Peer.{Peer}
 use Rattle.network.specs.declared.Topic.{Topic}
 use Rattle.network.specs.declared.Network.{Network}
-use Rattle.network.specs.Network.{mk, peer, topic, spot, subsOf, neighboursOf, knownOf, present, linked, subscribed, knows, Shaped}
+use Rattle.network.specs.Network.{mk, peer, topic, subsOf, neighboursOf, knownOf, present, linked, subscribed, knows, Shaped}
 use Rattle.network.specs.Sound.{Sound, Empty}
+use Rattle.network.specs.SoundLaws.{linked-other}
 use Rattle.floodnet.specs.Topics.{withoutIf, noted, struck, subscribedTo, unsubscribedFrom}
-use Rattle.floodnet.specs.Places.{has-withoutIf, withoutIf-lt, eqb-turn, getD-set, set-below, spot-of, edit-spot, linked-to, linked-turn}
+use Rattle.floodnet.specs.Places.{has-withoutIf, withoutIf-lt, eqb-turn, getD-set, set-below, spot-of, edit-spot, linked-turn}
 
 -- ---- the observations, one law each
 
@@ -219,7 +220,7 @@ subscribed-same {n} s p topics e =
         let both = and-yes (linked n p (peer (i / 32))) (has topics (i % 32)) y in
         let q : Peer = peer (i / 32) in
         let t : Topic = topic (i % 32) in
-        let known : knows n q t p ≡ true = s .knows q t p (linked-to (s .shaped) p q (both .0)) (omega arith) ∙ and-both (s .back p q (both .0)) (old t (both .1)) in
+        let known : knows n q t p ≡ true = s .knows q t p (linked-other (s .shaped) p q (both .0)) (omega arith) ∙ and-both (s .back p q (both .0)) (old t (both .1)) in
         rw y (with-member (getD (n .known) i 0) (p .0) (ap (λ (w : ℕ). has w (p .0)) (sym (at-place n i)) ∙ known))
     go i (inr y) = rw y
 
@@ -239,6 +240,6 @@ unsubscribed-same {n} s p topics e =
         let both = and-yes (linked n p (peer (i / 32))) (has topics (i % 32)) y in
         let q : Peer = peer (i / 32) in
         let t : Topic = topic (i % 32) in
-        let known : knows n q t p ≡ false = s .knows q t p (linked-to (s .shaped) p q (both .0)) (omega arith) ∙ rw (old t (both .1)) (and-false (linked n q p)) in
+        let known : knows n q t p ≡ false = s .knows q t p (linked-other (s .shaped) p q (both .0)) (omega arith) ∙ rw (old t (both .1)) (and-false (linked n q p)) in
         rw y (without-stranger (getD (n .known) i 0) (p .0) (ap (λ (w : ℕ). has w (p .0)) (sym (at-place n i)) ∙ known))
     go i (inr y) = rw y

@@ -2,6 +2,9 @@ pub mod Produce
 pub mod Forward
 pub mod Topics
 pub mod Links
+pub mod SoundBase
+pub mod ProduceLaws
+pub mod ForwardLaws
 pub mod Places
 pub mod TopicsLaws
 pub mod LinksLaws

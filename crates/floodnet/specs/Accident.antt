@@ -23,7 +23,7 @@ use Rattle.network.specs.Sound.{Sound, Empty}
 use Rattle.floodnet.specs.Links.{left, joined}
 use Rattle.floodnet.specs.Places.{spot-of}
 use Rattle.floodnet.specs.LinksLaws.{between}
-use Rattle.floodnet.specs.LeaveJoin.{others, left-sound, left-empty, present-left, publishes-left, subscribed-left, pending-left, saw-left, linked-left, knows-left, joined-sound, present-joined, publishes-joined, subscribed-joined, pending-joined, seen-joined, linked-joined, knows-joined}
+use Rattle.floodnet.specs.LeaveJoin.{left-sound, left-empty, present-left, publishes-left, subscribed-left, pending-left, saw-left, linked-left, knows-left, joined-sound, present-joined, publishes-joined, subscribed-joined, pending-joined, seen-joined, linked-joined, knows-joined}
 
 -- From n to m: what does not concern p is as it was.
 pub record Apart (p : Peer) (n m : Network) : Type 0 where

@@ -19,7 +19,7 @@ use Rattle.events.specs.Event.{readAt}
 use Rattle.floodnet.specs.Step.{refusal, kindOf, turnedOf, after, delivers, refusedBy}
 use Rattle.floodnet.specs.declared.Turned.{Turned}
 use Rattle.engine.specs.declared.Tally.{Tally}
-use Rattle.engine.specs.Run.{talliedOf, turnOf, Final, stopsAt, allDone, runFrom}
+use Rattle.engine.specs.Run.{tally, talliedOf, turnOf, Final, stopsAt, allDone, runFrom}
 use Rattle.engine.specs.RunLaws.{outcomeAt, tallyAfter, run-ind}
 
 -- the kind of what stands at a place: 1 for a produce, 2 for a forward, else 0
@@ -54,8 +54,8 @@ unfolding talliedOf
 tallied-produced t kind d = first (eqb kind 1) (eqb kind 2)
   where
     first : (x y : Bool)
-        → (cond x (record { produced = t .produced + 1; forwards = t .forwards; deliveries = t .deliveries })
-        (cond y (record { produced = t .produced; forwards = t .forwards + 1; deliveries = t .deliveries + d }) t)) .produced ≡ t .produced + digit x
+        → (cond x (tally (t .produced + 1) (t .forwards) (t .deliveries))
+        (cond y (tally (t .produced) (t .forwards + 1) (t .deliveries + d)) t)) .produced ≡ t .produced + digit x
     first true y = refl
     first false true = omega arith
     first false false = omega arith
@@ -65,8 +65,8 @@ unfolding talliedOf
 tallied-forwards t kind d = first (eqb kind 1) refl (eqb kind 2) refl
   where
     first : (x : Bool) → eqb kind 1 ≡ x → (y : Bool) → eqb kind 2 ≡ y
-        → (cond x (record { produced = t .produced + 1; forwards = t .forwards; deliveries = t .deliveries })
-        (cond y (record { produced = t .produced; forwards = t .forwards + 1; deliveries = t .deliveries + d }) t)) .forwards ≡ t .forwards + digit y
+        → (cond x (tally (t .produced + 1) (t .forwards) (t .deliveries))
+        (cond y (tally (t .produced) (t .forwards + 1) (t .deliveries + d)) t)) .forwards ≡ t .forwards + digit y
     first true e true z = absurd (both (eqb-true kind 1 e) (eqb-true kind 2 z))
       where
         both : kind ≡ 1 → kind ≡ 2 → ⊥
@@ -82,8 +82,8 @@ tallied-deliveries t kind d (inl e) = rw e
 tallied-deliveries t kind d (inr e) = first (eqb kind 1) (eqb kind 2)
   where
     first : (x y : Bool)
-        → (cond x (record { produced = t .produced + 1; forwards = t .forwards; deliveries = t .deliveries })
-        (cond y (record { produced = t .produced; forwards = t .forwards + 1; deliveries = t .deliveries + d }) t)) .deliveries ≡ t .deliveries + d
+        → (cond x (tally (t .produced + 1) (t .forwards) (t .deliveries))
+        (cond y (tally (t .produced) (t .forwards + 1) (t .deliveries + d)) t)) .deliveries ≡ t .deliveries + d
     first true y = omega arith
     first false true = refl
     first false false = omega arith

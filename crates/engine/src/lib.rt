@@ -1,4 +1,6 @@
 // The engine: the entry points that a host calls (document 01, "Numbers returned").
+mod tally;
+
 use network::Network;
 use network::Table;
 

@@ -5,7 +5,7 @@
 use mathlib.Core.Path.{_≡_, refl, sym, ap, ap₂, _∙_}
 use mathlib.Core.Bool.{Bool, true, false, not, cond, _&&_, _||_, and-true, and-false, or-false}
 use mathlib.Core.List.{List}
-use Prim.Native.Nat.{ℕ, _/_, _%_, _^_, _≤_, _<_}
+use Prim.Native.Nat.{ℕ, _/_, _%_, _^_, _<_}
 use native.Mathlib.Omega.{arith}
 use native.Mathlib.Decide.{decLt}
 use borrow.Author.Tests.{eqb-true}
@@ -18,12 +18,12 @@ use Rattle.network.specs.declared.Peer.{Peer}
 use Rattle.network.specs.declared.Topic.{Topic}
 use Rattle.network.specs.declared.Message.{Message}
 use Rattle.network.specs.declared.Network.{Network}
-use Rattle.network.specs.Network.{peer, topic, spot, neighboursOf, pendingOf, seenOf, present, publishes, subscribed, linked, pending, saw, knows}
+use Rattle.network.specs.Network.{peer, topic, spot, pendingOf, seenOf, present, publishes, subscribed, linked, pending, saw, knows}
 use Rattle.network.specs.Sound.{Sound, Empty}
 use Rattle.floodnet.specs.Links.{left, joined}
 use Rattle.floodnet.specs.Places.{spot-of}
 use Rattle.floodnet.specs.LinksLaws.{between}
-use Rattle.floodnet.specs.LeaveJoin.{others, left-sound, left-empty, present-left, publishes-left, subscribed-left, pending-left, saw-left, linked-left, knows-left, joined-sound, present-joined, publishes-joined, subscribed-joined, pending-joined, seen-joined, linked-joined, knows-joined}
+use Rattle.floodnet.specs.LeaveJoin.{left-sound, left-empty, present-left, publishes-left, subscribed-left, pending-left, saw-left, linked-left, knows-left, joined-sound, present-joined, publishes-joined, subscribed-joined, pending-joined, seen-joined, linked-joined, knows-joined}
 
 -- From n to m: what does not concern p is as it was.
 pub record Apart (p : Peer) (n m : Network) : Type 0 where
@@ -112,20 +112,23 @@ after-leave {n} s p hp =
 
 -- ---- after a join
 
--- In a sound network that p is absent from, p has no link, on either side.
+-- In a sound network that p is absent from, p lists nobody.
 alone : {n : Network} → Sound n → (p : Peer) → present n p ≡ false → p .0 < 32 → (q : Peer) → linked n p q ≡ false
 alone s p gone hp q = ap (λ (w : ℕ). has w (q .0)) (s .empty p hp gone .neighbours) ∙ has-none (q .0)
 
+-- And nobody lists p.
 unlisted-absent : {n : Network} → Sound n → (p : Peer) → present n p ≡ false → (q : Peer) → linked n q p ≡ false
 unlisted-absent s p gone q = not-false λ h. clash (s .near q p h) gone
 
--- The links between p and `who`, seen from p and from the other; and there is none between two others.
+-- The links between p and `who`, seen from p.
 from-p : (p : Peer) (who : ℕ) (q : Peer) → has who (p .0) ≡ false → between p who p q ≡ has who (q .0)
 from-p p who q self = rw (eqb-same (p .0), self, and-false (eqb (q .0) (p .0))) (or-false (has who (q .0)))
 
+-- Seen from the other side.
 to-p : (p : Peer) (who : ℕ) (q : Peer) → has who (p .0) ≡ false → between p who q p ≡ has who (q .0)
 to-p p who q self = rw (eqb-same (p .0), self, and-false (eqb (q .0) (p .0)))
 
+-- Between two others there is none.
 elsewhere : (p : Peer) (who : ℕ) (q c : Peer) → (q .0 ≡ p .0 → ⊥) → (c .0 ≡ p .0 → ⊥) → between p who q c ≡ false
 elsewhere p who q c d e = rw (ne-eqb d, ne-eqb e)
 

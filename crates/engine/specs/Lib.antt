@@ -4,3 +4,4 @@ pub mod RunLaws
 pub mod RunStops
 pub mod RunCounts
 pub mod RunSound
+pub mod Going

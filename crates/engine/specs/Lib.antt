@@ -5,3 +5,5 @@ pub mod RunStops
 pub mod RunCounts
 pub mod RunSound
 pub mod Going
+pub mod RunBefore
+pub mod Alone

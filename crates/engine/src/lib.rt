@@ -20,6 +20,21 @@ pub struct Answer {
     pub accepted: usize,
 }
 
+// The answer of a single forward.
+#[repr(C)]
+pub struct Forwarded {
+    pub number: u8,
+    pub place: usize,
+    pub deliveries: u32,
+}
+
+// The answer of an entry point that only reads or writes: 0, or a refusal and its place.
+#[repr(C)]
+pub struct Checked {
+    pub number: u8,
+    pub place: usize,
+}
+
 // What an entry point begins with: 0 and what was read, or the number and place of a refusal.
 pub struct Begun {
     pub number: u8,

@@ -3,6 +3,7 @@ pub mod Sound
 pub mod Rules
 pub mod Tests
 pub mod Joining
+pub mod Backing
 pub mod State
 pub mod Layout
 pub mod Rows

@@ -6,9 +6,14 @@ use Prim.Native.Nat.{ℕ, _+_, _*_, _<_}
 use lib.Dec.{eqb}
 use lib.ListN.{getD}
 use Rattle.sets.specs.Set.{has, meet, withIf, setOf}
-use Rattle.sets.specs.Any.{all}
+use Rattle.sets.specs.Bools.{and-both}
+use Rattle.sets.specs.Any.{all, all-more}
 use Rattle.lists.specs.Tab.{tab}
 use Rattle.lists.specs.Edit.{edit}
+
+-- a loop that asks the numbers below 32 one by one: the next passes too
+pub all-next : (n : ℕ) (f : ℕ → Bool) → all n f ≡ true → f n ≡ true → all (n + 1) f ≡ true
+all-next n f h e = all-more n f ∙ and-both h e
 
 -- the peers subscribed to each topic, from the subs of all peers: worked out once a state
 unfoldable pub subscribersOf : List ℕ → List ℕ

@@ -47,3 +47,49 @@ pub(crate) fn subscribers(subs: &[u32; 32]) -> [u32; 32]
     }
     r
 }
+
+// The row of p has no known subscribers.
+fn row_empty(known: &[u32; 1024], p: usize) -> bool
+    requires { ⌜ p < 32 ⌝ }
+    ensures { λ r. ⌜ r ≡ rowEmpty (now (known .entry)) p ⌝ }
+{
+    let mut t: usize = 0;
+    while t < 32 {
+        if known[p * 32 + t] != 0 {
+            return false;
+        }
+        t += 1;
+    }
+    true
+}
+
+// Every peer of the set lists p.
+fn list_back(neighbours: &[u32; 32], listed: u32, p: u32) -> bool
+    requires { ⌜ p < 32 ⌝ }
+    ensures { λ r. ⌜ r ≡ listBack (now (neighbours .entry)) listed p ⌝ }
+{
+    let mut left = listed;
+    while 0 < left {
+        let q = sets::lowest32(left);
+        if !sets::has32(neighbours[q as usize], p) {
+            return false;
+        }
+        left = sets::rest32(left);
+    }
+    true
+}
+
+// The row of p has, for each topic, the subscribers among the peers listed.
+fn row_known(known: &[u32; 1024], subscribers: &[u32; 32], listed: u32, p: usize) -> bool
+    requires { ⌜ p < 32 ⌝ }
+    ensures { λ r. ⌜ r ≡ rowKnown (now (known .entry)) (now (subscribers .entry)) listed p ⌝ }
+{
+    let mut t: usize = 0;
+    while t < 32 {
+        if known[p * 32 + t] != sets::meet32(subscribers[t], listed) {
+            return false;
+        }
+        t += 1;
+    }
+    true
+}

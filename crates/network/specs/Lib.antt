@@ -1,6 +1,7 @@
 pub mod Network
 pub mod Sound
 pub mod Rules
+pub mod Faults
 pub mod Tests
 pub mod Joining
 pub mod Backing

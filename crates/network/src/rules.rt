@@ -1,10 +1,15 @@
 // The rules of soundness as code: which rule a record breaks first, and which record is the lowest that breaks one
 // (specs/Rules.antt; specs/Tests.antt has what is tested in place of a rule).
+use crate::Peer;
+
 ghost use mathlib.Core.Path.{_≡_};
 ghost use Prim.Native.Nat.{ℕ, _<_};
+ghost use mathlib.Core.List.{[]};
 ghost use lib.Dec.{eqb};
 ghost use lib.ListN.{getD};
 ghost use Rattle.sets.specs.Set.{setOf};
+ghost use Rattle.network.specs.Network.{mk};
+ghost use Rattle.network.specs.Rules.{absentFault, presentFault};
 ghost use Rattle.network.specs.Tests.{subscribersOf, joinedTo, rowEmpty, listBack, rowKnown};
 
 // The peers whose first word is 1.
@@ -92,4 +97,73 @@ fn row_known(known: &[u32; 1024], subscribers: &[u32; 32], listed: u32, p: usize
         t += 1;
     }
     true
+}
+
+// The fault of an absent record: 2 where it is not empty. Who else is present plays no part in it.
+fn absent_fault(
+    p: Peer,
+    pubs: &[u32; 32],
+    subs: &[u32; 32],
+    neighbours: &[u32; 32],
+    pending: &[u64; 32],
+    seen: &[u64; 32],
+    known: &[u32; 1024],
+) -> u8
+    requires { ⌜ p .0 < 32 ⌝ }
+    ensures { λ r. ⌜ r ≡ absentFault (mk 0 (now (pubs .entry)) (now (subs .entry)) (now (neighbours .entry)) (now (pending .entry)) (now (seen .entry)) (now (known .entry))) p ⌝ }
+{
+    let i = p.0 as usize;
+    if pubs[i] != 0 {
+        return 2;
+    }
+    if subs[i] != 0 {
+        return 2;
+    }
+    if neighbours[i] != 0 {
+        return 2;
+    }
+    if pending[i] != 0 {
+        return 2;
+    }
+    if seen[i] != 0 {
+        return 2;
+    }
+    if row_empty(known, i) {
+        return 0;
+    }
+    2
+}
+
+// The fault of a present record, `subscribers` being the peers subscribed to each topic.
+fn present_fault(
+    p: Peer,
+    present: u32,
+    subs: &[u32; 32],
+    neighbours: &[u32; 32],
+    pending: &[u64; 32],
+    seen: &[u64; 32],
+    known: &[u32; 1024],
+    subscribers: &[u32; 32],
+) -> u8
+    requires { ⌜ (p .0 < 32) × (now subscribers ≡ subscribersOf (now subs)) ⌝ }
+    ensures { λ r. ⌜ r ≡ presentFault (mk present [] (now (subs .entry)) (now (neighbours .entry)) (now (pending .entry)) (now (seen .entry)) (now (known .entry))) p ⌝ }
+{
+    let i = p.0 as usize;
+    let listed = neighbours[i];
+    if sets::has32(listed, p.0 as u32) {
+        return 3;
+    }
+    if sets::minus32(listed, present) != 0 {
+        return 4;
+    }
+    if !list_back(neighbours, listed, p.0 as u32) {
+        return 5;
+    }
+    if !row_known(known, subscribers, listed, i) {
+        return 6;
+    }
+    if sets::meet64(pending[i], seen[i]) != 0 {
+        return 7;
+    }
+    0
 }

@@ -1,6 +1,7 @@
 -- Which number a record's first failing rule has, from what the code tests; and that a record with none keeps them all. Assumes nothing.
 use mathlib.Core.Path.{_≡_, refl, sym, ap, _∙_}
 use mathlib.Core.Bool.{Bool, true, false, cond, _&&_}
+use mathlib.Core.List.{List}
 use Prim.Native.Nat.{ℕ, _≤_, _<_}
 use native.Mathlib.Omega.{arith}
 use lib.Dec.{eqb, ltb}
@@ -9,7 +10,7 @@ use Rattle.sets.specs.Bools.{not-false, and-both, and-yes}
 use Rattle.sets.specs.Any.{all, all-yes, all-why}
 use Rattle.network.specs.declared.Peer.{Peer}
 use Rattle.network.specs.declared.Network.{Network}
-use Rattle.network.specs.Network.{topic, pubsOf, subsOf, neighboursOf, pendingOf, seenOf, knownOf}
+use Rattle.network.specs.Network.{mk, topic, pubsOf, subsOf, neighboursOf, pendingOf, seenOf, knownOf}
 use Rattle.network.specs.Sound.{Empty}
 use Rattle.network.specs.Rules.{headRight, emptyRight, ownRight, nearRight, backRight, knownRight, apartRight, unless, absentFault, presentFault, faultOf}
 
@@ -94,3 +95,14 @@ module _ (n : Network) (p : Peer) where
   pub fault-present : (h : ℕ) → h ≡ 1 → faultOf h n p ≡ presentFault n p
   unfolding faultOf
   fault-present h e = rw e
+
+-- who else is present plays no part in an absent record's fault, nor p's pubs in a present one's
+pub absent-same : (k present : ℕ) (pubs subs neighbours pending seen known : List ℕ) (p : Peer)
+    → absentFault (mk k pubs subs neighbours pending seen known) p ≡ absentFault (mk present pubs subs neighbours pending seen known) p
+unfolding absentFault emptyRight
+absent-same k present pubs subs neighbours pending seen known p = refl
+
+pub present-same : (present : ℕ) (l pubs subs neighbours pending seen known : List ℕ) (p : Peer)
+    → presentFault (mk present l subs neighbours pending seen known) p ≡ presentFault (mk present pubs subs neighbours pending seen known) p
+unfolding presentFault ownRight nearRight backRight knownRight apartRight
+present-same present l pubs subs neighbours pending seen known p = refl

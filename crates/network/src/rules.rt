@@ -9,7 +9,7 @@ ghost use lib.Dec.{eqb};
 ghost use lib.ListN.{getD};
 ghost use Rattle.sets.specs.Set.{setOf};
 ghost use Rattle.network.specs.Network.{mk};
-ghost use Rattle.network.specs.Rules.{absentFault, presentFault};
+ghost use Rattle.network.specs.Rules.{absentFault, presentFault, faultOf, lowestBy};
 ghost use Rattle.network.specs.Tests.{subscribersOf, joinedTo, rowEmpty, listBack, rowKnown};
 
 // The peers whose first word is 1.
@@ -166,4 +166,54 @@ fn present_fault(
         return 7;
     }
     0
+}
+
+// The first rule that p's record breaks, its first word being `head`; 0 where it breaks none.
+fn fault(
+    head: u32,
+    p: Peer,
+    present: u32,
+    pubs: &[u32; 32],
+    subs: &[u32; 32],
+    neighbours: &[u32; 32],
+    pending: &[u64; 32],
+    seen: &[u64; 32],
+    known: &[u32; 1024],
+    subscribers: &[u32; 32],
+) -> u8
+    requires { ⌜ (p .0 < 32) × (now subscribers ≡ subscribersOf (now subs)) ⌝ }
+    ensures { λ r. ⌜ r ≡ faultOf head (mk present (now (pubs .entry)) (now (subs .entry)) (now (neighbours .entry)) (now (pending .entry)) (now (seen .entry)) (now (known .entry))) p ⌝ }
+{
+    if 2 <= head {
+        return 1;
+    }
+    if head == 0 {
+        return absent_fault(p, pubs, subs, neighbours, pending, seen, known);
+    }
+    present_fault(p, present, subs, neighbours, pending, seen, known, subscribers)
+}
+
+// The lowest record that breaks a rule; 32 where none does.
+pub(crate) fn lowest_fault(
+    heads: &[u32; 32],
+    present: u32,
+    pubs: &[u32; 32],
+    subs: &[u32; 32],
+    neighbours: &[u32; 32],
+    pending: &[u64; 32],
+    seen: &[u64; 32],
+    known: &[u32; 1024],
+) -> usize
+    ensures { λ r. ⌜ r ≡ lowestBy (now (heads .entry)) (mk present (now (pubs .entry)) (now (subs .entry)) (now (neighbours .entry)) (now (pending .entry)) (now (seen .entry)) (now (known .entry))) ⌝ }
+{
+    let subscribers = subscribers(subs);
+    let mut p: u8 = 0;
+    while p < 32 {
+        let i = p as usize;
+        if fault(heads[i], Peer(p), present, pubs, subs, neighbours, pending, seen, known, &subscribers) != 0 {
+            return i;
+        }
+        p += 1;
+    }
+    32
 }

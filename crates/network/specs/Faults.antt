@@ -1,18 +1,20 @@
 -- Which number a record's first failing rule has, from what the code tests; and that a record with none keeps them all. Assumes nothing.
 use mathlib.Core.Path.{_≡_, refl, sym, ap, _∙_}
-use mathlib.Core.Bool.{Bool, true, false, cond, _&&_}
+use mathlib.Core.Bool.{Bool, true, false, cond, not, _&&_}
 use mathlib.Core.List.{List}
-use Prim.Native.Nat.{ℕ, _≤_, _<_}
+use Prim.Native.Nat.{ℕ, _+_, _≤_, _<_}
 use native.Mathlib.Omega.{arith}
 use lib.Dec.{eqb, ltb}
+use lib.ListN.{getD}
 use borrow.Author.Tests.{le-ltb, eq-eqb, eqb-true}
-use Rattle.sets.specs.Bools.{not-false, and-both, and-yes}
+use Rattle.sets.specs.Bools.{not-false, and-both, and-yes, ne-eqb}
+use Rattle.sets.specs.Least.{lowestOf, lowestOf-on, lowestOf-found}
 use Rattle.sets.specs.Any.{all, all-yes, all-why}
 use Rattle.network.specs.declared.Peer.{Peer}
 use Rattle.network.specs.declared.Network.{Network}
-use Rattle.network.specs.Network.{mk, topic, pubsOf, subsOf, neighboursOf, pendingOf, seenOf, knownOf}
+use Rattle.network.specs.Network.{peer, mk, topic, pubsOf, subsOf, neighboursOf, pendingOf, seenOf, knownOf}
 use Rattle.network.specs.Sound.{Empty}
-use Rattle.network.specs.Rules.{headRight, emptyRight, ownRight, nearRight, backRight, knownRight, apartRight, unless, absentFault, presentFault, faultOf}
+use Rattle.network.specs.Rules.{headRight, emptyRight, ownRight, nearRight, backRight, knownRight, apartRight, unless, absentFault, presentFault, faultOf, faulty, lowestBy}
 
 -- six that all hold, and back
 six-yes : (a b c d e f : Bool) → a && (b && (c && (d && (e && f)))) ≡ true → (a ≡ true) × (b ≡ true) × (c ≡ true) × (d ≡ true) × (e ≡ true) × (f ≡ true)
@@ -106,3 +108,17 @@ pub present-same : (present : ℕ) (l pubs subs neighbours pending seen known : 
     → presentFault (mk present l subs neighbours pending seen known) p ≡ presentFault (mk present pubs subs neighbours pending seen known) p
 unfolding presentFault ownRight nearRight backRight knownRight apartRight
 present-same present l pubs subs neighbours pending seen known p = refl
+
+-- a loop over the records that stops at the first with a fault: the next has none, or is it
+pub faulty-on : (q : ℕ) (heads : List ℕ) (n : Network) {r : ℕ} → q ≡ lowestOf q (faulty heads n) → r ≡ faultOf (getD heads q 0) n (peer q) → r ≡ 0
+    → q + 1 ≡ lowestOf (q + 1) (faulty heads n)
+unfolding faulty
+faulty-on q heads n k e z = lowestOf-on q (faulty heads n) k (ap not (eq-eqb _ _ (sym e ∙ z)))
+
+pub faulty-found : (q : ℕ) (heads : List ℕ) (n : Network) {r : ℕ} → q ≡ lowestOf q (faulty heads n) → q < 32 → r ≡ faultOf (getD heads q 0) n (peer q) → (r ≡ 0 → ⊥) → q ≡ lowestBy heads n
+unfolding faulty lowestBy
+faulty-found q heads n k b e z = lowestOf-found 32 q (faulty heads n) k b (ap not (ne-eqb λ f. z (e ∙ f)))
+
+pub faulty-none : (q : ℕ) (heads : List ℕ) (n : Network) → q ≡ lowestOf q (faulty heads n) → q ≡ 32 → 32 ≡ lowestBy heads n
+unfolding lowestBy
+faulty-none q heads n k e = rw e at k

@@ -60,7 +60,7 @@ unfoldable pub faultOf : ℕ → Network → Peer → ℕ
 faultOf h n p = unless (headRight h) 1 (cond (eqb h 0) (absentFault n p) (presentFault n p))
 
 -- record p has a fault, the first words of all records being `heads`; and the "lowest unsound record", 32 where there is none
-abbrev pub faulty : List ℕ → Network → ℕ → Bool
+unfoldable pub faulty : List ℕ → Network → ℕ → Bool
 faulty heads n p = not (eqb (faultOf (getD heads p 0) n (peer p)) 0)
 
 unfoldable pub lowestBy : List ℕ → Network → ℕ

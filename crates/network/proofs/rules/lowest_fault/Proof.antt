@@ -1,14 +1,12 @@
 -- `network::rules::lowest_fault` meets its contract. Assumes nothing.
 use borrow.Author.Needs.{needs}
-use mathlib.Core.Path.{_≡_, sym, ap, _∙_}
-use mathlib.Core.Bool.{not}
+use mathlib.Core.Path.{_≡_}
 use Prim.Native.Nat.{ℕ, _-_, _≤_}
 use native.Mathlib.Omega.{arith}
-use lib.Dec.{eqb}
-use borrow.Author.Tests.{eq-eqb, ne-eqb}
-use Rattle.sets.specs.Least.{lowestOf, lowestOf-start, lowestOf-on, lowestOf-found}
+use Rattle.sets.specs.Least.{lowestOf, lowestOf-start}
 use Rattle.network.specs.Network.{mk}
-use Rattle.network.specs.Rules.{faulty, lowestBy}
+use Rattle.network.specs.Rules.{faulty}
+use Rattle.network.specs.Faults.{faulty-on, faulty-found, faulty-none}
 use Rattle.network.proofs.rules.lowest_fault.Statement.{statement}
 use Rattle.network.proofs.rules.lowest_fault.Tie as tie
 
@@ -37,10 +35,9 @@ fault-requires : tie.Need-fault-requires Inv-loop μ-loop
 fault-requires c κs = search needs
 
 returns : tie.Need-returns Inv-loop μ-loop
-unfolding lowestBy
 returns c =
     let l = c .before .before .before .before .before .loop in
-    lowestOf-found 32 (l .p) _ (l .inv .1) (search needs) (ap not (ne-eqb _ _ λ e. c .if1 .taken (c .before .fault .ensures ∙ e)))
+    faulty-found (l .p) _ _ (l .inv .1) (search needs) (c .before .fault .ensures) (c .if1 .taken)
 
 add-p : tie.Need-add-p Inv-loop μ-loop
 add-p c = search needs
@@ -49,13 +46,10 @@ loop-less : tie.Need-loop-less Inv-loop μ-loop
 loop-less c = search needs
 
 loop-again : tie.Need-loop-again Inv-loop μ-loop
-loop-again c =
-    let l = c .before .before .before .before .before .loop in
-    (search needs, lowestOf-on (l .p) _ (l .inv .1) (ap not (eq-eqb _ _ (sym (c .before .fault .ensures) ∙ c .if1 .left))))
+loop-again c = (search needs, faulty-on _ _ _ (c .before .before .before .before .before .loop .inv .1) (c .before .fault .ensures) (c .if1 .left))
 
 returns-2 : tie.Need-returns-2 Inv-loop μ-loop
-unfolding lowestBy
-returns-2 c = let e : c .before .loop .p ≡ 32 = omega arith in rw e at (c .before .loop .inv .1)
+returns-2 c = faulty-none _ _ _ (c .before .loop .inv .1) (omega arith)
 
 pub lowest-fault-spec : {M : Type 1} → statement M
 lowest-fault-spec =

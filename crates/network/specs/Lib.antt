@@ -7,5 +7,6 @@ pub mod Joining
 pub mod Backing
 pub mod State
 pub mod Layout
+pub mod Opening
 pub mod Rows
 pub mod SoundLaws

@@ -1,6 +1,12 @@
 pub mod Network
 pub mod Sound
 pub mod Rules
+pub mod Faults
+pub mod Tests
+pub mod Joining
+pub mod Backing
 pub mod State
+pub mod Layout
+pub mod Opening
 pub mod Rows
 pub mod SoundLaws

@@ -1,7 +1,11 @@
 // The network: its working state, what a sound one is, and how it is read from and written to 5,120 bytes (document 01,
 // "Numbers and state", "Records"). Read specs/Network.antt (the state and what can be observed of it), specs/Rules.antt
 // (soundness, rule by rule), specs/State.antt (the records) and specs/Rows.antt (the message table).
+mod load;
+mod rules;
+
 ghost use mathlib.Core.Path.{_≡_};
+ghost use Rattle.network.specs.State.{blankNet, openOf};
 
 // "A peer number, a topic number and a message number are separate sorts": none stands where another is meant.
 pub struct Peer(pub u8);
@@ -46,4 +50,42 @@ pub struct Listed {
     pub number: u8,
     pub place: usize,
     pub table: Table,
+}
+
+// The blank network: nobody is present.
+pub fn blank() -> Network
+    ensures { λ r. ⌜ r ≡ blankNet ⌝ }
+{
+    Network {
+        present: 0,
+        pubs: [0u32; 32],
+        subs: [0u32; 32],
+        neighbours: [0u32; 32],
+        pending: [0u64; 32],
+        seen: [0u64; 32],
+        known: [0u32; 1024],
+    }
+}
+
+// The network that the bytes say. Refused by 1, then by 5 with the lowest unsound record, with the blank network.
+pub fn read(state: &[u8]) -> Opened
+    ensures { λ r. ⌜ r ≡ openOf (now (state .entry)) ⌝ }
+{
+    if state.len() != 5120 {
+        return Opened { number: 1, place: 0, network: blank() };
+    }
+    let heads = load::words(state, 0);
+    let pubs = load::words(state, 1);
+    let subs = load::words(state, 2);
+    let neighbours = load::words(state, 3);
+    let pending = load::longs(state, 4);
+    let seen = load::longs(state, 6);
+    let known = load::known(state);
+    let present = rules::ones(&heads);
+    let p = rules::lowest_fault(&heads, present, &pubs, &subs, &neighbours, &pending, &seen, &known);
+    if p < 32 {
+        return Opened { number: 5, place: p, network: blank() };
+    }
+    let network = Network { present, pubs, subs, neighbours, pending, seen, known };
+    Opened { number: 0, place: 0, network }
 }

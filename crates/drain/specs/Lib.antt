@@ -1,0 +1,3 @@
+pub mod Drain
+pub mod Reach
+pub mod ReachLaws

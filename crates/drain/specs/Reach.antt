@@ -78,12 +78,14 @@ pub record Reach (b : Table) (n : Network) : Type 0 where
   -- Document 01: "At most 2,048 forwards and 32 rounds are ever needed."
   pub few-forwards : (l : List Forward) → Accepted b n l → length l ≤ 2048
   pub few-rounds : Quiet (roundsOf b 32 n)
-  -- Document 01: "demand 3's statement on rounds holds for one drain with enough budget": it ends quiet, in as many full rounds as it answers, each
-  -- with something to forward.
+  -- Document 01: "demand 3's statement on rounds holds for one drain with enough budget": it ends quiet, in as many full rounds as it answers. Of a
+  -- drain with any budget, each round had something to forward.
   pub drain-quiet : (budget : ℕ) → 2048 ≤ budget → Quiet (drainOf b budget n .end)
   pub drain-rounds : (budget : ℕ) → 2048 ≤ budget → drainOf b budget n .end ≡ roundsOf b (drainOf b budget n .rounds) n
-  pub drain-needed : (budget : ℕ) → 2048 ≤ budget → (k : ℕ) → k < drainOf b budget n .rounds → Quiet (roundsOf b k n) → ⊥
-  pub drain-few : (budget : ℕ) → (drainOf b budget n .forwards ≤ 2048) × (drainOf b budget n .rounds ≤ 32)
+  pub drain-needed : (budget k : ℕ) → k < drainOf b budget n .rounds → Quiet (roundsOf b k n) → ⊥
+  -- Document 01: "The drain stops when nothing is pending or the budget is spent."
+  pub drain-stops : (budget : ℕ) → Quiet (drainOf b budget n .end) ⊎ (drainOf b budget n .forwards ≡ budget)
+  pub drain-few : (budget : ℕ) → (drainOf b budget n .forwards ≤ budget) × (drainOf b budget n .forwards ≤ 2048) × (drainOf b budget n .rounds ≤ 32)
   -- What it drains is what any host that forwards in any order ends with, by as many forwards.
   pub drain-any-order : (budget : ℕ) → 2048 ≤ budget → (l : List Forward) → Accepted b n l → Quiet (after b n l)
       → (after b n l ≡ drainOf b budget n .end) × (length l ≡ drainOf b budget n .forwards)

@@ -170,7 +170,7 @@ module _ {b : Table} {n : Network} (s : Sound n) (rows : Rows b) where
   unfolding roundsOf
   calm = quiet b _ (page .few-rounds)
 
-  needed : (budget : ℕ) (k : ℕ) → k < drainOf b budget n .rounds → Quiet (roundsOf b k n) → ⊥
+  needed : (budget k : ℕ) → k < drainOf b budget n .rounds → Quiet (roundsOf b k n) → ⊥
   unfolding roundsOf
   needed budget k l q = drains budget .needed k l (still b _ q)
 
@@ -178,10 +178,17 @@ module _ {b : Table} {n : Network} (s : Sound n) (rows : Rows b) where
   unfolding roundsOf
   full budget h = drain-done budget h .ends
 
-  few : (budget : ℕ) → (drainOf b budget n .forwards ≤ 2048) × (drainOf b budget n .rounds ≤ 32)
+  stops : (budget : ℕ) → Quiet (drainOf b budget n .end) ⊎ (drainOf b budget n .forwards ≡ budget)
+  stops budget = go (drains budget .stops)
+    where
+      go : flooding.Quiet (view b (drainOf b budget n .end)) ⊎ (drainOf b budget n .forwards ≡ budget) → Quiet (drainOf b budget n .end) ⊎ (drainOf b budget n .forwards ≡ budget)
+      go (inl q) = inl (quiet b _ q)
+      go (inr e) = inr e
+
+  few : (budget : ℕ) → (drainOf b budget n .forwards ≤ budget) × (drainOf b budget n .forwards ≤ 2048) × (drainOf b budget n .rounds ≤ 32)
   few budget =
       let x = drains budget in
-      (rw (x .made) (page .few-forwards (x .path) (x .accepted)), x .few)
+      (x .within, rw (x .made) (page .few-forwards (x .path) (x .accepted)), x .few)
 
   any-order : (budget : ℕ) → 2048 ≤ budget → (l : List Forward) → Accepted b n l → Quiet (after b n l)
       → (after b n l ≡ drainOf b budget n .end) × (length l ≡ drainOf b budget n .forwards)
@@ -209,7 +216,8 @@ module _ {b : Table} {n : Network} (s : Sound n) (rows : Rows b) where
         few-rounds = calm;
         drain-quiet = λ budget h. quiet b _ (drain-done budget h .quiet);
         drain-rounds = full;
-        drain-needed = λ budget h k l q. needed budget k l q;
+        drain-needed = needed;
+        drain-stops = stops;
         drain-few = few;
         drain-any-order = any-order;
       }

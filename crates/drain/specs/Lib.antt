@@ -1,0 +1,6 @@
+pub mod Drain
+pub mod Reach
+pub mod ReachLaws
+pub mod Pairs
+pub mod Turns
+pub mod DrainLaws

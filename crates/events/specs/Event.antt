@@ -24,10 +24,8 @@ readingOf End = record { number = 0; event = Skip }
 readingOf (Refused n) = record { number = n; event = Skip }
 
 -- 01's number of what was read
-unfoldable pub numberOf : Read → ℕ
-numberOf (Taken e) = 0
-numberOf End = 0
-numberOf (Refused n) = n
+abbrev pub numberOf : Read → ℕ
+numberOf r = readingOf r .number
 
 -- "Unused byte not zero": the words from byte 8 on are zero; all three are; message and byte 3 are.
 unfoldable pub noMore : Fields → Bool

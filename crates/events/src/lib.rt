@@ -15,7 +15,6 @@ ghost use lib.ListN.{length};
 ghost use lib.Dec.{ltb};
 ghost use Rattle.events.specs.Event.{noMore, noSets, noMessage, skipOk, pairOk, topicsOk, leaveOk, joinOk, orSeven, decodeOf, fieldsAt, readAt, placeAfter, readingOf, joiningOf};
 ghost use Rattle.events.specs.Writing.{fieldsMk, fieldsOf, putHead, putFields, recordOf, writtenAt};
-
 use network::Message;
 use network::Peer;
 
@@ -311,4 +310,41 @@ pub fn place_after(bytes: &[u8], place: usize) -> usize
     } else {
         place
     }
+}
+
+// "A reader that carries the event bytes together with its place."
+pub struct Reader<'a> {
+    pub bytes: &'a [u8],
+    pub place: usize,
+}
+
+pub fn new<'a>(bytes: &'a [u8], place: usize) -> Reader<'a>
+    ensures { λ r. ⌜ (r .bytes ≡ bytes .entry) × (r .place ≡ place) ⌝ }
+{
+    Reader { bytes, place }
+}
+
+// What stands at the reader's place.
+pub fn next<'a>(r: Reader<'a>) -> Read
+    ensures { λ s. ⌜ s ≡ readAt (now (r .entry .bytes)) (r .entry .place) ⌝ }
+{
+    read_at(r.bytes, r.place)
+}
+
+// The reader one place on; at the end it stays where it is.
+pub fn advanced<'a>(r: Reader<'a>) -> Reader<'a>
+    ensures { λ q. ⌜ (q .bytes ≡ r .entry .bytes) × (q .place ≡ placeAfter (now (r .entry .bytes)) (r .entry .place)) ⌝ }
+{
+    let place = place_after(r.bytes, r.place);
+    Reader {
+        bytes: r.bytes,
+        place,
+    }
+}
+
+// Plain parameters: a Reader is made in a local and passed on. Whoever calls this needs no walk.
+pub fn event_at(bytes: &[u8], place: usize) -> Read
+    ensures { λ r. ⌜ r ≡ readAt (now (bytes .entry)) place ⌝ }
+{
+    next(new(bytes, place))
 }

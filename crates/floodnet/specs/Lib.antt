@@ -9,3 +9,5 @@ pub mod ProduceLaws
 pub mod ForwardLaws
 pub mod View
 pub mod ViewLaws
+pub mod ViewCounts
+pub mod ViewFloods

@@ -1,10 +1,12 @@
 -- What `flooding` sees of a network with a message table: its peers, topics and messages are the numbers of these. Assumes nothing.
 use Prim.Native.Nat.{ℕ}
 use mathlib.Core.List.{List}
+use Rattle.sets.specs.Set.{size}
+use Rattle.sets.specs.Sums.{sum}
 use Rattle.flooding.specs.Network.{Net}
 use Rattle.network.specs.declared.Network.{Network}
 use Rattle.network.specs.declared.Table.{Table}
-use Rattle.network.specs.Network.{peer, topic, message, present, pending, saw, knows, topicOf}
+use Rattle.network.specs.Network.{peer, topic, message, pendingOf, present, pending, saw, knows, topicOf}
 use Rattle.floodnet.specs.Forward.{forwarded}
 
 -- the observations of n, with the topics of b
@@ -32,3 +34,7 @@ pub record Rest : Type 0 where
 
 unfoldable pub rest : Network → Rest
 rest n = record { present = n .present; pubs = n .pubs; subs = n .subs; neighbours = n .neighbours; known = n .known }
+
+-- the pending pairs of n: how many pairs of a peer and a message are pending
+unfoldable pub pairs : Network → ℕ
+pairs n = sum 32 (λ p. size (pendingOf n (peer p)))

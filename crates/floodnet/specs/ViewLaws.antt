@@ -1,24 +1,24 @@
 -- What the view shows, place by place: a sound network shows a sound one, and a forward shows flooding's forward. Assumes nothing.
 use mathlib.Core.Path.{_≡_, refl, sym, ap, _∙_}
-use mathlib.Core.Bool.{Bool, true, false, _&&_}
-use mathlib.Core.List.{List}
-use Prim.Native.Nat.{ℕ, _+_, _*_, _/_, _%_, _^_, _≤_, _<_}
+use mathlib.Core.Bool.{true, _&&_}
+use Prim.Native.Nat.{ℕ, _+_, _*_, _/_, _%_, _≤_, _<_}
 use native.Mathlib.Nat.{div-add-mod'}
 use native.Mathlib.Omega.{arith}
 use native.Mathlib.Decide.{decLt}
 use lib.ListN.{length, getD}
 use lib.Seq.{ext-getD}
 use Rattle.sets.specs.Set.{has}
-use Rattle.sets.specs.Bools.{clash}
-use Rattle.sets.specs.Members.{ext-below}
+use Rattle.sets.specs.Bools.{clash, not-false}
+use Rattle.sets.specs.Members.{ext-below, has-none}
+use Rattle.sets.specs.Lowest.{none-empty}
 use Rattle.flooding.specs.Network as flooding
-use Rattle.flooding.specs.Network.{Net, link, forward}
+use Rattle.flooding.specs.Network.{Net, Quiet, link, forward}
 use Rattle.flooding.specs.Machine.{Machine}
 use Rattle.network.specs.declared.Peer.{Peer}
 use Rattle.network.specs.declared.Topic.{Topic}
 use Rattle.network.specs.declared.Network.{Network}
 use Rattle.network.specs.declared.Table.{Table}
-use Rattle.network.specs.Network.{peer, topic, message, spot, present, subscribed, linked, pending, saw, knows, topicOf, Shaped, Rows}
+use Rattle.network.specs.Network.{peer, topic, message, pendingOf, spot, present, subscribed, linked, pending, saw, knows, topicOf, Shaped, Rows}
 use Rattle.network.specs.Sound.{Sound}
 use Rattle.network.specs.SoundLaws.{present-peer, pending-peer, pending-message, pending-present, saw-message, saw-present, knows-present}
 use Rattle.floodnet.specs.Forward.{forwarded, given, moved}
@@ -61,6 +61,17 @@ view-linked {n} s {b} rows m p q = go (decLt p 32)
         let u : length (n .neighbours) ≤ p = omega (arith, s .shaped .neighbours) in
         has-beyond (n .known) (p * 32 + getD (b .topics) m 0) q o ∙ sym (rw (has-beyond (n .neighbours) p q u))
 
+-- Nothing is pending: every peer's set is empty.
+pub quiet-empty : (b : Table) (n : Network) → Quiet (view b n) → (p : Peer) → pendingOf n p ≡ 0
+unfolding view
+quiet-empty b n h p = none-empty (pendingOf n p) (h (p .0))
+
+-- And back.
+pub empty-quiet : {n : Network} (b : Table) → Shaped n → ((p : Peer) → p .0 < 32 → pendingOf n p ≡ 0) → Quiet (view b n)
+unfolding view
+empty-quiet {n} b s h p m =
+    not-false λ e. clash e (ap (λ (w : ℕ). has w m) (h (peer p) (pending-peer s (peer p) (message m) e)) ∙ has-none m)
+
 -- ---- a sound network shows a sound one
 
 -- Whoever is known is present, whatever the numbers: the place of peer p and topic t is that of a peer and a topic in range, or past the end.
@@ -76,6 +87,7 @@ knows-near {n} s p t q h = go (decLt (spot p t) 1024)
         let o : length (n .known) ≤ spot p t = omega (arith, s .shaped .known) in
         clash h (has-beyond (n .known) (spot p t) (q .0) o)
 
+-- So the view of a sound network is sound.
 pub view-sound : {n : Network} (b : Table) → Sound n → flooding.Sound 32 64 (view b n)
 unfolding view
 view-sound b s =

@@ -11,3 +11,8 @@ pub mod View
 pub mod ViewLaws
 pub mod ViewCounts
 pub mod ViewFloods
+pub mod Places
+pub mod TopicsLaws
+pub mod LinksLaws
+pub mod Records
+pub mod LeaveJoin

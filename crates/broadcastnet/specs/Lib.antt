@@ -1,0 +1,4 @@
+pub mod Broadcast
+pub mod Commit
+pub mod Page
+pub mod CommitLaws

@@ -3,3 +3,4 @@ pub mod Run
 pub mod RunLaws
 pub mod RunStops
 pub mod RunCounts
+pub mod RunSound

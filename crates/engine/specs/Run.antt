@@ -5,7 +5,7 @@
 --   starts from zero in each run that gets past 5."
 use mathlib.Core.Bool.{Bool, true, false, cond}
 use mathlib.Core.List.{List}
-use Prim.Native.Nat.{ℕ, zero, suc, _+_, _/_}
+use Prim.Native.Nat.{ℕ, zero, suc, _+_, _/_, _^_, _<_}
 use lib.Dec.{eqb}
 use lib.ListN.{length}
 use Rattle.network.specs.declared.Network.{Network}
@@ -23,14 +23,23 @@ use Rattle.engine.specs.Start.{beginOf}
 
 -- ---- the tally
 
+abbrev pub tally : ℕ → ℕ → ℕ → Tally
+tally produced forwards deliveries = record { produced = produced; forwards = forwards; deliveries = deliveries }
+
 abbrev pub zeroTally : Tally
-zeroTally = record { produced = 0; forwards = 0; deliveries = 0 }
+zeroTally = tally 0 0 0
+
+-- there is room for one event more with d deliveries
+pub record Room (t : Tally) (d : ℕ) : Type 0 where
+  pub produced : t .produced + 1 < 2 ^ 64
+  pub forwards : t .forwards + 1 < 2 ^ 64
+  pub deliveries : t .deliveries + d < 2 ^ 64
 
 -- "Produced and forwards are the accepted events of those kinds; deliveries is the sum of theirs." Kind 1 is a produce, 2 a forward.
 unfoldable pub talliedOf : Tally → ℕ → ℕ → Tally
 talliedOf t kind d =
-    cond (eqb kind 1) (record { produced = t .produced + 1; forwards = t .forwards; deliveries = t .deliveries })
-    (cond (eqb kind 2) (record { produced = t .produced; forwards = t .forwards + 1; deliveries = t .deliveries + d }) t)
+    cond (eqb kind 1) (tally (t .produced + 1) (t .forwards) (t .deliveries))
+    (cond (eqb kind 2) (tally (t .produced) (t .forwards + 1) (t .deliveries + d)) t)
 
 -- ---- one event
 

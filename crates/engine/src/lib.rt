@@ -1,4 +1,6 @@
 // The engine: the entry points that a host calls (document 01, "Numbers returned").
+mod counts; // counts.rt: the update of the tally
+
 use network::Network;
 use network::Table;
 

@@ -1,24 +1,23 @@
 -- Leave and join in observations: what each changes, and that a sound network stays sound. Assumes nothing.
 use mathlib.Core.Path.{_≡_, refl, sym, ap, ap₂, _∙_}
-use mathlib.Core.Bool.{Bool, true, false, not, cond, _&&_, _||_, and-true, and-false, and-comm, and-assoc, and-not-self}
+use mathlib.Core.Bool.{Bool, true, false, not, cond, _&&_, _||_, and-true, and-false, and-not-self}
 use Prim.Native.Nat.{ℕ, _^_, _<_}
 use borrow.Author.Tests.{eqb-true}
 use lib.Dec.{eqb}
-use lib.ListN.{getD}
-use Rattle.sets.specs.Set.{has, union, minus, only, Subset}
-use Rattle.sets.specs.Bools.{and-both, and-yes, and-no, eqb-same, or-right}
+use Rattle.sets.specs.Set.{has, union, minus, only}
+use Rattle.sets.specs.Bools.{and-both, and-no, eqb-same, or-right}
 use Rattle.sets.specs.Members.{has-with}
 use Rattle.sets.specs.Subsets.{subset-of-minus, minus-of-subset, subset-trans, subset-union}
 use Rattle.network.specs.declared.Peer.{Peer}
 use Rattle.network.specs.declared.Topic.{Topic}
 use Rattle.network.specs.declared.Message.{Message}
 use Rattle.network.specs.declared.Network.{Network}
-use Rattle.network.specs.Network.{neighboursOf, present, publishes, subscribed, linked, pending, saw, knows, Shaped}
+use Rattle.network.specs.Network.{neighboursOf, present, publishes, subscribed, linked, pending, saw, knows}
 use Rattle.network.specs.Sound.{Sound, Empty}
-use Rattle.floodnet.specs.Links.{linkUp, linkDown, cleared, placed, left, joined}
+use Rattle.floodnet.specs.Links.{linkUp, linkDown, placed, left, joined}
 use Rattle.floodnet.specs.Places.{linked-turn}
-use Rattle.floodnet.specs.LinksLaws.{between, linkUp-sound, linkDown-sound, linked-up-all, linked-down-all, knows-up, SameButLinks, up-rest, down-rest}
-use Rattle.floodnet.specs.Records.{present-cleared, publishes-cleared, subscribed-cleared, linked-cleared, pending-cleared, saw-cleared, cleared-sound, cleared-absent, present-placed, publishes-placed, subscribed-placed, placed-shaped, placed-sound, SameButPlace, placed-rest}
+use Rattle.floodnet.specs.LinksLaws.{between, linkUp-sound, linkDown-sound, linked-up-all, linked-down-all}
+use Rattle.floodnet.specs.Records.{present-cleared, publishes-cleared, subscribed-cleared, linked-cleared, pending-cleared, saw-cleared, cleared-sound, cleared-absent, present-placed, publishes-placed, subscribed-placed, placed-shaped, placed-sound}
 
 -- ---- leave
 
@@ -26,23 +25,27 @@ use Rattle.floodnet.specs.Records.{present-cleared, publishes-cleared, s
 abbrev pub others : Peer → Peer → Peer → Bool
 others p a c = not (eqb (a .0) (p .0)) && not (eqb (c .0) (p .0))
 
--- p is absent, and its record has nothing; what the others have is as it was.
+-- p is absent. Here and in the laws that follow, what the others have is as it was.
 pub present-left : (n : Network) (p q : Peer) → present (left n p) q ≡ present n q && not (eqb (q .0) (p .0))
 unfolding left linkDown
 present-left n p q = present-cleared (linkDown n p (neighboursOf n p)) p q
 
+-- p publishes nothing.
 pub publishes-left : (n : Network) (p q : Peer) (t : Topic) → publishes (left n p) q t ≡ not (eqb (q .0) (p .0)) && publishes n q t
 unfolding left linkDown
 publishes-left n p q t = publishes-cleared (linkDown n p (neighboursOf n p)) p q t
 
+-- p subscribes to nothing.
 pub subscribed-left : (n : Network) (p q : Peer) (t : Topic) → subscribed (left n p) q t ≡ not (eqb (q .0) (p .0)) && subscribed n q t
 unfolding left linkDown
 subscribed-left n p q t = subscribed-cleared (linkDown n p (neighboursOf n p)) p q t
 
+-- Nothing is pending at p.
 pub pending-left : (n : Network) (p q : Peer) (m : Message) → pending (left n p) q m ≡ not (eqb (q .0) (p .0)) && pending n q m
 unfolding left linkDown
 pending-left n p q m = pending-cleared (linkDown n p (neighboursOf n p)) p q m
 
+-- p has seen nothing.
 pub saw-left : (n : Network) (p q : Peer) (m : Message) → saw (left n p) q m ≡ not (eqb (q .0) (p .0)) && saw n q m
 unfolding left linkDown
 saw-left n p q m = saw-cleared (linkDown n p (neighboursOf n p)) p q m
@@ -97,29 +100,32 @@ pub joined-is : {n : Network} → Sound n → (p : Peer) (subs pubs who : ℕ) �
 unfolding joined
 joined-is s p subs pubs who gone hp = rw (cleared-absent s p hp gone)
 
--- p is present with these topics; what the others have is as it was.
+-- p is present. Here and in the two laws that follow, what the others have is as it was.
 pub present-joined : {n : Network} → Sound n → (p : Peer) (subs pubs who : ℕ) → present n p ≡ false → p .0 < 32 → (q : Peer)
     → present (joined n p subs pubs who) q ≡ present n q || eqb (q .0) (p .0)
 unfolding linkUp
 present-joined {n} s p subs pubs who gone hp q = ap (λ (m : Network). present m q) (joined-is s p subs pubs who gone hp) ∙ present-placed n p subs pubs q
 
+-- p publishes `pubs`.
 pub publishes-joined : {n : Network} → Sound n → (p : Peer) (subs pubs who : ℕ) → present n p ≡ false → p .0 < 32 → (q : Peer) (t : Topic)
     → publishes (joined n p subs pubs who) q t ≡ cond (eqb (q .0) (p .0)) (has pubs (t .0)) (publishes n q t)
 unfolding linkUp
 publishes-joined {n} s p subs pubs who gone hp q t =
     ap (λ (m : Network). publishes m q t) (joined-is s p subs pubs who gone hp) ∙ publishes-placed (s .shaped) p subs pubs hp q t
 
+-- p subscribes to `subs`.
 pub subscribed-joined : {n : Network} → Sound n → (p : Peer) (subs pubs who : ℕ) → present n p ≡ false → p .0 < 32 → (q : Peer) (t : Topic)
     → subscribed (joined n p subs pubs who) q t ≡ cond (eqb (q .0) (p .0)) (has subs (t .0)) (subscribed n q t)
 unfolding linkUp
 subscribed-joined {n} s p subs pubs who gone hp q t =
     ap (λ (m : Network). subscribed m q t) (joined-is s p subs pubs who gone hp) ∙ subscribed-placed (s .shaped) p subs pubs hp q t
 
--- The messages pending and seen are as they were: none at p.
+-- The messages pending are as they were: none at p.
 pub pending-joined : {n : Network} → Sound n → (p : Peer) (subs pubs who : ℕ) → present n p ≡ false → p .0 < 32 → joined n p subs pubs who .pending ≡ n .pending
 unfolding linkUp placed
 pending-joined s p subs pubs who gone hp = ap (λ (m : Network). m .pending) (joined-is s p subs pubs who gone hp)
 
+-- And so are the messages seen.
 pub seen-joined : {n : Network} → Sound n → (p : Peer) (subs pubs who : ℕ) → present n p ≡ false → p .0 < 32 → joined n p subs pubs who .seen ≡ n .seen
 unfolding linkUp placed
 seen-joined s p subs pubs who gone hp = ap (λ (m : Network). m .seen) (joined-is s p subs pubs who gone hp)

@@ -16,3 +16,5 @@ pub mod TopicsLaws
 pub mod LinksLaws
 pub mod Records
 pub mod LeaveJoin
+pub mod Accident
+pub mod StepLaws

@@ -4,28 +4,30 @@ use mathlib.Core.Path.{_≡_, refl, sym, ap, ap₂, _∙_}
 use mathlib.Core.Logic.{_⊎_, inl, inr, ⊎-elim}
 use mathlib.Core.Bool.{Bool, true, false, not, _&&_, _||_, and-true, and-false, and-comm, or-false, or-comm, or-assoc, or-self, and-assoc, and-or-distrib-right}
 use mathlib.Core.List.{List}
-use Prim.Native.Nat.{ℕ, _+_, _*_, _/_, _%_, _^_, _≤_, _<_}
+use Prim.Native.Nat.{ℕ, _^_, _≤_, _<_}
 use native.Mathlib.Omega.{arith}
 use native.Mathlib.Decide.{decLt}
-use borrow.Author.Tests.{eqb-true, eqb-false}
+use borrow.Author.Tests.{eqb-true}
 use lib.Dec.{eqb}
 use lib.ListN.{length, getD}
-use Rattle.sets.specs.Set.{has, union, minus, only, withIf, sift, Subset}
-use Rattle.sets.specs.Bools.{either, clash, not-false, bool-ext, not-yes, and-both, and-yes, and-no, or-left, or-right, or-yes, ne-eqb, and-eqb}
+use Rattle.sets.specs.Set.{has, minus, withIf, sift, Subset}
+use Rattle.sets.specs.Bools.{clash, not-false, and-yes, and-no, or-yes, ne-eqb, and-eqb}
 use Rattle.sets.specs.Members.{has-none}
-use Rattle.sets.specs.Bounds.{has-in, has-out}
+use Rattle.sets.specs.Bounds.{has-out}
 use Rattle.sets.specs.Build.{has-withIf, withIf-lt, has-sift, sift-lt}
 use Rattle.sets.specs.Lowest.{none-empty}
 use Rattle.sets.specs.Subsets.{subset-of-minus}
-use Rattle.lists.specs.Edit.{edit, length-edit, getD-edit, getD-edit-out, edit-below}
+use Rattle.lists.specs.Edit.{length-edit, getD-edit, getD-edit-out, edit-below}
 use Rattle.network.specs.declared.Peer.{Peer}
 use Rattle.network.specs.declared.Topic.{Topic}
 use Rattle.network.specs.declared.Network.{Network}
-use Rattle.network.specs.Network.{mk, peer, topic, spot, subsOf, neighboursOf, knownOf, present, linked, subscribed, knows, Shaped}
-use Rattle.network.specs.Sound.{Sound, Empty}
+use Rattle.network.specs.Network.{mk, peer, topic, subsOf, neighboursOf, knownOf, present, linked, subscribed, knows, Shaped}
+use Rattle.network.specs.Sound.{Sound}
+use Rattle.network.specs.SoundLaws.{linked-peer}
 use Rattle.floodnet.specs.Topics.{withoutIf}
 use Rattle.floodnet.specs.Links.{unionIf, minusIf, linkUp, linkDown}
-use Rattle.floodnet.specs.Places.{has-withoutIf, has-unionIf, has-minusIf, withoutIf-lt, unionIf-lt, minusIf-lt, eqb-turn, edit-spot, links-out, linked-turn}
+use Rattle.floodnet.specs.SoundBase.{eqb-sym}
+use Rattle.floodnet.specs.Places.{has-withoutIf, has-unionIf, has-minusIf, withoutIf-lt, unionIf-lt, minusIf-lt, edit-spot, linked-turn}
 
 -- One of a and c is p, and the other is of `who`: the link is one of those that are recorded or forgotten.
 abbrev pub between : Peer → ℕ → Peer → Peer → Bool
@@ -41,10 +43,12 @@ pub record SameButLinks (n m : Network) : Type 0 where
   pub pending : m .pending ≡ n .pending
   pub seen : m .seen ≡ n .seen
 
+-- Recording changes nothing else.
 pub up-rest : (n : Network) (p : Peer) (who : ℕ) → SameButLinks n (linkUp n p who)
 unfolding linkUp
 up-rest n p who = record { present = refl; pubs = refl; subs = refl; pending = refl; seen = refl }
 
+-- Nor does forgetting.
 pub down-rest : (n : Network) (p : Peer) (who : ℕ) → SameButLinks n (linkDown n p who)
 unfolding linkDown
 down-rest n p who = record { present = refl; pubs = refl; subs = refl; pending = refl; seen = refl }
@@ -55,7 +59,7 @@ unfolding linkUp
 linked-up {n} s p who a c ha =
     ap (λ (w : ℕ). has w (c .0)) (getD-edit (λ q w. withIf (has who q) (p .0) (unionIf (eqb q (p .0)) who w)) (n .neighbours) (a .0) (omega (arith, s .neighbours)))
     ∙ has-withIf (has who (a .0)) (p .0) (unionIf (eqb (a .0) (p .0)) who (neighboursOf n a)) (c .0)
-    ∙ ap₂ _||_ (has-unionIf (eqb (a .0) (p .0)) who (neighboursOf n a) (c .0)) (and-comm (has who (a .0)) (eqb (p .0) (c .0)) ∙ ap (λ (x : Bool). x && has who (a .0)) (eqb-turn (p .0) (c .0)))
+    ∙ ap₂ _||_ (has-unionIf (eqb (a .0) (p .0)) who (neighboursOf n a) (c .0)) (and-comm (has who (a .0)) (eqb (p .0) (c .0)) ∙ ap (λ (x : Bool). x && has who (a .0)) (eqb-sym (p .0) (c .0)))
     ∙ or-assoc (linked n a c) (eqb (a .0) (p .0) && has who (c .0)) (eqb (c .0) (p .0) && has who (a .0))
 
 -- The links that were there, but for those between p and `who`.
@@ -64,7 +68,7 @@ unfolding linkDown
 linked-down {n} s p who a c ha =
     ap (λ (w : ℕ). has w (c .0)) (getD-edit (λ q w. withoutIf (has who q) (p .0) (minusIf (eqb q (p .0)) who w)) (n .neighbours) (a .0) (omega (arith, s .neighbours)))
     ∙ has-withoutIf (has who (a .0)) (p .0) (minusIf (eqb (a .0) (p .0)) who (neighboursOf n a)) (c .0)
-    ∙ ap₂ (λ (x y : Bool). x && not y) (has-minusIf (eqb (a .0) (p .0)) who (neighboursOf n a) (c .0)) (and-comm (has who (a .0)) (eqb (p .0) (c .0)) ∙ ap (λ (x : Bool). x && has who (a .0)) (eqb-turn (p .0) (c .0)))
+    ∙ ap₂ (λ (x y : Bool). x && not y) (has-minusIf (eqb (a .0) (p .0)) who (neighboursOf n a) (c .0)) (and-comm (has who (a .0)) (eqb (p .0) (c .0)) ∙ ap (λ (x : Bool). x && has who (a .0)) (eqb-sym (p .0) (c .0)))
     ∙ go (linked n a c) (eqb (a .0) (p .0) && has who (c .0)) (eqb (c .0) (p .0) && has who (a .0))
   where
     go : (l x y : Bool) → (l && not x) && not y ≡ l && not (x || y)
@@ -87,7 +91,7 @@ knows-up {n} s p who a t c hw ha ht =
     ∙ has-unionIf (eqb (a .0) (p .0)) (theirs (t .0)) (withIf (has who (a .0) && subscribed n p t) (p .0) (knownOf n a t)) (c .0)
     ∙ ap₂ (λ (x y : Bool). x || (eqb (a .0) (p .0) && y)) (has-withIf (has who (a .0) && subscribed n p t) (p .0) (knownOf n a t) (c .0)) (in-theirs (decLt (c .0) 32))
     ∙ either-side (knows n a t c) (eqb (a .0) (p .0)) (has who (c .0)) (has who (a .0)) (eqb (p .0) (c .0)) (subscribed n p t) (subscribed n c t) same
-    ∙ ap (λ (x : Bool). knows n a t c || (((eqb (a .0) (p .0) && has who (c .0)) || (x && has who (a .0))) && subscribed n c t)) (eqb-turn (p .0) (c .0))
+    ∙ ap (λ (x : Bool). knows n a t c || (((eqb (a .0) (p .0) && has who (c .0)) || (x && has who (a .0))) && subscribed n c t)) (eqb-sym (p .0) (c .0))
   where
     theirs : ℕ → ℕ
     theirs y = sift 32 who (λ q. subscribed n (peer q) (topic y))
@@ -110,21 +114,23 @@ knows-down {n} s p who a t c ha ht =
     ∙ has-minusIf (eqb (a .0) (p .0)) who (withoutIf (has who (a .0)) (p .0) (knownOf n a t)) (c .0)
     ∙ ap (λ (x : Bool). x && not (eqb (a .0) (p .0) && has who (c .0))) (has-withoutIf (has who (a .0)) (p .0) (knownOf n a t) (c .0))
     ∙ go (knows n a t c) (eqb (a .0) (p .0) && has who (c .0)) (has who (a .0)) (eqb (p .0) (c .0))
-    ∙ ap (λ (x : Bool). knows n a t c && not ((eqb (a .0) (p .0) && has who (c .0)) || (x && has who (a .0)))) (eqb-turn (p .0) (c .0))
+    ∙ ap (λ (x : Bool). knows n a t c && not ((eqb (a .0) (p .0) && has who (c .0)) || (x && has who (a .0)))) (eqb-sym (p .0) (c .0))
   where
     go : (k x u e : Bool) → (k && not (u && e)) && not x ≡ k && not (x || (e && u))
     go k true u e = and-false (k && not (u && e)) ∙ sym (and-false k)
     go k false u e = rw (and-true, and-comm u e)
 
--- The two laws of links for every number a, also one that is no peer's.
+-- A number that is no peer's has no link.
 past : {n : Network} → Shaped n → (a c : Peer) → 32 ≤ a .0 → linked n a c ≡ false
-past s a c h = ap (λ (w : ℕ). has w (c .0)) (links-out s a h) ∙ has-none (c .0)
+past s a c h = not-false λ e. absurd (omega (arith, linked-peer s a c e))
 
+-- Such a number is on neither side of a link of p with `who`.
 no-side : (p : Peer) (who : ℕ) (a c : Peer) → p .0 < 32 → who < 2 ^ 32 → 32 ≤ a .0 → between p who a c ≡ false
 no-side p who a c hp hw h =
     let x : eqb (a .0) (p .0) ≡ false = ne-eqb (λ (e : a .0 ≡ p .0). omega arith) in
     rw (x, has-out 32 who (a .0) hw h) (and-false (eqb (c .0) (p .0)))
 
+-- `linked-up` for every a.
 pub linked-up-all : {n : Network} → Shaped n → (p : Peer) (who : ℕ) → p .0 < 32 → who < 2 ^ 32 → (a c : Peer) → linked (linkUp n p who) a c ≡ linked n a c || between p who a c
 unfolding linkUp
 linked-up-all {n} s p who hp hw a c = go (decLt (a .0) 32)
@@ -136,6 +142,7 @@ linked-up-all {n} s p who hp hw a c = go (decLt (a .0) 32)
         ap (λ (w : ℕ). has w (c .0)) (getD-edit-out _ (n .neighbours) (a .0) (omega (arith, s .neighbours))) ∙ has-none (c .0)
         ∙ sym (ap₂ _||_ (past s a c o) (no-side p who a c hp hw o))
 
+-- `linked-down` for every a.
 pub linked-down-all : {n : Network} → Shaped n → (p : Peer) (who : ℕ) (a c : Peer) → linked (linkDown n p who) a c ≡ linked n a c && not (between p who a c)
 unfolding linkDown
 linked-down-all {n} s p who a c = go (decLt (a .0) 32)
@@ -202,6 +209,7 @@ relink-sound {n} neighbours known s shape own near turn law =
 
 -- ---- shape and soundness stay
 
+-- Recording keeps the shape.
 pub linkUp-shaped : {n : Network} → Shaped n → (p : Peer) (who : ℕ) → p .0 < 32 → who < 2 ^ 32 → Shaped (linkUp n p who)
 unfolding linkUp
 linkUp-shaped {n} s p who hp hw =
@@ -209,6 +217,7 @@ linkUp-shaped {n} s p who hp hw =
     (edit-below _ (n .neighbours) (2 ^ 32) (omega arith) λ i h. withIf-lt 32 _ (p .0) _ hp (unionIf-lt 32 _ who _ hw (s .neighbours-fit i)))
     (edit-below _ (n .known) (2 ^ 32) (omega arith) λ i h. unionIf-lt 32 _ _ _ (sift-lt 32 who _) (withIf-lt 32 _ (p .0) _ hp (s .known-fit i)))
 
+-- So does forgetting.
 pub linkDown-shaped : {n : Network} → Shaped n → (p : Peer) (who : ℕ) → Shaped (linkDown n p who)
 unfolding linkDown
 linkDown-shaped {n} s p who =

@@ -5,20 +5,20 @@ use mathlib.Core.Bool.{Bool, true, false, not, cond, _&&_, _||_, and-true, or-fa
 use mathlib.Core.List.{List}
 use Prim.Native.Nat.{ℕ, _+_, _*_, _/_, _%_, _^_, _≤_, _<_}
 use native.Mathlib.Omega.{arith}
-use native.Mathlib.Decide.{decLt, ℕ-discrete}
+use native.Mathlib.Decide.{decLt}
 use borrow.Author.Tests.{eqb-true, eqb-false}
 use lib.Dec.{eqb}
-use lib.ListN.{length, getD, set, length-set, List·getD-eq-default}
+use lib.ListN.{length, getD, set, List·getD-eq-default}
 use lib.Seq.{getD-set-same, getD-set-other, set-out}
-use Rattle.sets.specs.Set.{has, union, minus, only, withIf}
-use Rattle.sets.specs.Bools.{clash, bool-ext, eqb-same}
-use Rattle.sets.specs.Members.{has-union, has-minus, has-only, has-none, members}
-use Rattle.sets.specs.Bounds.{has-out, has-in, union-lt, minus-lt}
+use Rattle.sets.specs.Set.{has, only}
+use Rattle.sets.specs.Bools.{bool-ext}
+use Rattle.sets.specs.Members.{has-union, has-minus, has-none, members}
+use Rattle.sets.specs.Bounds.{union-lt, minus-lt}
 use Rattle.lists.specs.Edit.{edit, getD-edit}
 use Rattle.network.specs.declared.Peer.{Peer}
 use Rattle.network.specs.declared.Topic.{Topic}
 use Rattle.network.specs.declared.Network.{Network}
-use Rattle.network.specs.Network.{peer, topic, neighboursOf, knownOf, present, linked, subscribed, knows, spot, Shaped}
+use Rattle.network.specs.Network.{linked, spot}
 use Rattle.network.specs.Sound.{Sound}
 use Rattle.floodnet.specs.Topics.{withoutIf}
 use Rattle.floodnet.specs.Links.{unionIf, minusIf, keepIf}
@@ -49,32 +49,31 @@ unfolding keepIf
 has-keepIf true w j = refl
 has-keepIf false w j = has-none j
 
--- Each choice leaves a word of k bits one.
+-- Each choice leaves a word of k bits one. Without i.
 pub withoutIf-lt : (k : ℕ) (b : Bool) (i w : ℕ) → w < 2 ^ k → withoutIf b i w < 2 ^ k
 unfolding withoutIf
 withoutIf-lt k true i w h = minus-lt k w (only i) h
 withoutIf-lt k false i w h = h
 
+-- With s put in.
 pub unionIf-lt : (k : ℕ) (b : Bool) (s w : ℕ) → s < 2 ^ k → w < 2 ^ k → unionIf b s w < 2 ^ k
 unfolding unionIf
 unionIf-lt k true s w hs h = union-lt k w s h hs
 unionIf-lt k false s w hs h = h
 
+-- With s taken out.
 pub minusIf-lt : (k : ℕ) (b : Bool) (s w : ℕ) → w < 2 ^ k → minusIf b s w < 2 ^ k
 unfolding minusIf
 minusIf-lt k true s w h = minus-lt k w s h
 minusIf-lt k false s w h = h
 
+-- Kept or not.
 pub keepIf-lt : (k : ℕ) (b : Bool) (w : ℕ) → w < 2 ^ k → keepIf b w < 2 ^ k
 unfolding keepIf
 keepIf-lt k true w h = h
 keepIf-lt k false w h = omega arith
 
--- Equal numbers, asked either way round.
-pub eqb-turn : (a b : ℕ) → eqb a b ≡ eqb b a
-eqb-turn a b = bool-ext (λ e. rw (eqb-true a b e) (eqb-same b)) (λ e. rw (eqb-true b a e) (eqb-same a))
-
--- ---- one place stored to
+-- ---- one place stored to (more: SoundBase.antt)
 
 -- What stands at q once v is stored at p.
 pub getD-set : (l : List ℕ) (p q v : ℕ) → p < length l → getD (set l p v) q 0 ≡ cond (eqb q p) v (getD l q 0)
@@ -105,32 +104,13 @@ zeroed l p q = first (decLt p (length l))
 pub has-zeroed : (l : List ℕ) (p q i : ℕ) → has (getD (set l p 0) q 0) i ≡ not (eqb q p) && has (getD l q 0) i
 has-zeroed l p q i = ap (λ (w : ℕ). has w i) (zeroed l p q) ∙ has-keepIf (not (eqb q p)) (getD l q 0) i
 
--- A member of what stands at q once v is stored at p.
-pub has-set : (l : List ℕ) (p q v i : ℕ) → p < length l → has (getD (set l p v) q 0) i ≡ cond (eqb q p) (has v i) (has (getD l q 0) i)
-has-set l p q v i h = ap (λ (w : ℕ). has w i) (getD-set l p q v h) ∙ at (eqb q p)
-  where
-    at : (b : Bool) → has (cond b v (getD l q 0)) i ≡ cond b (has v i) (has (getD l q 0) i)
-    at true = refl
-    at false = refl
-
--- A bound on every number, past the end too.
-pub set-below : (l : List ℕ) (p v b : ℕ) → v < b → ((i : ℕ) → getD l i 0 < b) → (i : ℕ) → getD (set l p v) i 0 < b
-set-below l p v b hv h i = first (decLt p (length l))
-  where
-    at : (x : Bool) → cond x v (getD l i 0) < b
-    at true = hv
-    at false = h i
-
-    first : Dec (p < length l) → getD (set l p v) i 0 < b
-    first (yes c) = rw (getD-set l p i v c) (at (eqb i p))
-    first (no c) = rw (set-out l p v (omega arith)) (h i)
-
 -- ---- the word of a peer and a topic
 
 -- The spot of peer q and topic t is in q's row, at t.
 pub spot-row : (q t : ℕ) → t < 32 → (q * 32 + t) / 32 ≡ q
 spot-row q t h = omega arith
 
+-- And its column is t.
 pub spot-column : (q t : ℕ) → t < 32 → (q * 32 + t) % 32 ≡ t
 spot-column q t h = omega arith
 
@@ -146,22 +126,7 @@ edit-spot f l q t e hq ht =
     ∙ ap (λ (x : ℕ). f x (spot q t % 32) (getD l (spot q t) 0)) (spot-row (q .0) (t .0) ht)
     ∙ ap (λ (x : ℕ). f (q .0) x (getD l (spot q t) 0)) (spot-column (q .0) (t .0) ht)
 
--- ---- links of a sound network
-
--- Past the last peer there is no link.
-pub links-out : {n : Network} → Shaped n → (p : Peer) → 32 ≤ p .0 → neighboursOf n p ≡ 0
-links-out {n} s p h = List·getD-eq-default (n .neighbours) 0 (omega (arith, s .neighbours))
-
--- Who lists a neighbour is a peer, and so is the neighbour.
-pub linked-from : {n : Network} → Shaped n → (p q : Peer) → linked n p q ≡ true → p .0 < 32
-linked-from {n} s p q e = first (decLt (p .0) 32)
-  where
-    first : Dec (p .0 < 32) → p .0 < 32
-    first (yes c) = c
-    first (no c) = clash e (ap (λ (w : ℕ). has w (q .0)) (links-out s p (omega arith)) ∙ has-none (q .0))
-
-pub linked-to : {n : Network} → Shaped n → (p q : Peer) → linked n p q ≡ true → q .0 < 32
-linked-to {n} s p q e = has-in 32 (neighboursOf n p) (q .0) (s .neighbours-fit (p .0)) e
+-- ---- links of a sound network (more of them: network, specs/SoundLaws.antt)
 
 -- A link is listed on both sides or on none.
 pub linked-turn : {n : Network} → Sound n → (p q : Peer) → linked n p q ≡ linked n q p

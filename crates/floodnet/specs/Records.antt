@@ -1,65 +1,68 @@
 -- A peer's record that becomes zero, and one that is made: what each changes in observations, and when a sound network stays sound.
 -- Assumes nothing.
 use mathlib.Core.Path.{_≡_, refl, sym, ap, ap₂, _∙_}
-use mathlib.Core.Logic.{_⊎_, inl, inr, ⊎-elim}
-use mathlib.Core.Bool.{Bool, true, false, not, cond, _&&_, _||_, and-true, and-false, and-comm, or-false, or-comm, and-assoc}
+use mathlib.Core.Bool.{Bool, true, false, not, cond, _&&_, _||_, and-true, and-false}
 use mathlib.Core.List.{List}
-use Prim.Native.Nat.{ℕ, _+_, _*_, _/_, _%_, _^_, _≤_, _<_}
+use Prim.Native.Nat.{ℕ, _+_, _*_, _/_, _%_, _^_, _<_}
 use native.Mathlib.Omega.{arith}
-use native.Mathlib.Decide.{decLt}
 use borrow.Author.Tests.{eqb-true, eqb-false}
 use lib.Dec.{eqb}
-use lib.ListN.{length, getD, set, length-set, List·getD-eq-default}
-use lib.Seq.{getD-set-other, set-getD, set-out}
-use Rattle.sets.specs.Set.{has, union, minus, only, Subset}
-use Rattle.sets.specs.Bools.{either, clash, not-false, not-yes, and-both, and-yes, and-no, or-left, or-right, or-yes, or-no, ne-eqb, eqb-same}
-use Rattle.sets.specs.Members.{has-union, has-minus, has-only, has-none, has-with}
+use lib.ListN.{getD, set, length-set}
+use lib.Seq.{getD-set-other, set-getD}
+use Rattle.sets.specs.Set.{has, only}
+use Rattle.sets.specs.Bools.{clash, not-false, and-both, and-yes, and-no, or-left, or-no}
+use Rattle.sets.specs.Members.{has-union, has-minus, has-only}
 use Rattle.sets.specs.Bounds.{union-lt, minus-lt, only-lt}
-use Rattle.sets.specs.Lowest.{none-empty}
 use Rattle.sets.specs.Sizes.{without-stranger}
-use Rattle.sets.specs.Subsets.{subset-of-minus, minus-of-subset, subset-trans, subset-union}
-use Rattle.lists.specs.Edit.{edit, length-edit, edit-below, edit-none}
+use Rattle.lists.specs.Edit.{length-edit, edit-below, edit-none}
 use Rattle.network.specs.declared.Peer.{Peer}
 use Rattle.network.specs.declared.Topic.{Topic}
 use Rattle.network.specs.declared.Message.{Message}
 use Rattle.network.specs.declared.Network.{Network}
-use Rattle.network.specs.Network.{mk, peer, topic, spot, pubsOf, subsOf, neighboursOf, pendingOf, seenOf, knownOf, present, publishes, subscribed, linked, pending, saw, knows, Shaped}
+use Rattle.network.specs.Network.{mk, topic, neighboursOf, knownOf, present, publishes, subscribed, linked, pending, saw, knows, Shaped}
 use Rattle.network.specs.Sound.{Sound, Empty}
-use Rattle.floodnet.specs.Links.{keepIf, linkUp, linkDown, cleared, placed, left, joined}
-use Rattle.floodnet.specs.Places.{has-keepIf, keepIf-lt, eqb-turn, zeroed, has-zeroed, has-set, set-below, spot-of, edit-spot, linked-turn}
-use Rattle.floodnet.specs.LinksLaws.{between, linkUp-sound, linkDown-sound, linked-up-all, linked-down-all}
+use Rattle.floodnet.specs.Links.{keepIf, cleared, placed}
+use Rattle.floodnet.specs.SoundBase.{eqb-sym, has-set, set-below}
+use Rattle.floodnet.specs.Places.{has-keepIf, keepIf-lt, zeroed, has-zeroed, edit-spot}
 
 -- ---- "record becomes zero"
 
--- The record of p is zero, and p is absent; what the others have is as it was.
+-- p is absent. Here and in the laws that follow, what the others have is as it was.
 pub present-cleared : (n : Network) (p q : Peer) → present (cleared n p) q ≡ present n q && not (eqb (q .0) (p .0))
 unfolding cleared
-present-cleared n p q = has-minus (n .present) (only (p .0)) (q .0) ∙ ap (λ (x : Bool). present n q && not x) (has-only (p .0) (q .0) ∙ eqb-turn (p .0) (q .0))
+present-cleared n p q = has-minus (n .present) (only (p .0)) (q .0) ∙ ap (λ (x : Bool). present n q && not x) (has-only (p .0) (q .0) ∙ eqb-sym (p .0) (q .0))
 
+-- p publishes nothing.
 pub publishes-cleared : (n : Network) (p q : Peer) (t : Topic) → publishes (cleared n p) q t ≡ not (eqb (q .0) (p .0)) && publishes n q t
 unfolding cleared
 publishes-cleared n p q t = has-zeroed (n .pubs) (p .0) (q .0) (t .0)
 
+-- p subscribes to nothing.
 pub subscribed-cleared : (n : Network) (p q : Peer) (t : Topic) → subscribed (cleared n p) q t ≡ not (eqb (q .0) (p .0)) && subscribed n q t
 unfolding cleared
 subscribed-cleared n p q t = has-zeroed (n .subs) (p .0) (q .0) (t .0)
 
+-- p lists nobody. (Who lists p still does.)
 pub linked-cleared : (n : Network) (p q c : Peer) → linked (cleared n p) q c ≡ not (eqb (q .0) (p .0)) && linked n q c
 unfolding cleared
 linked-cleared n p q c = has-zeroed (n .neighbours) (p .0) (q .0) (c .0)
 
+-- Nothing is pending at p.
 pub pending-cleared : (n : Network) (p q : Peer) (m : Message) → pending (cleared n p) q m ≡ not (eqb (q .0) (p .0)) && pending n q m
 unfolding cleared
 pending-cleared n p q m = has-zeroed (n .pending) (p .0) (q .0) (m .0)
 
+-- p has seen nothing.
 pub saw-cleared : (n : Network) (p q : Peer) (m : Message) → saw (cleared n p) q m ≡ not (eqb (q .0) (p .0)) && saw n q m
 unfolding cleared
 saw-cleared n p q m = has-zeroed (n .seen) (p .0) (q .0) (m .0)
 
+-- p has no known subscribers: word by word.
 pub known-cleared : {n : Network} → Shaped n → (p q : Peer) (t : Topic) → q .0 < 32 → t .0 < 32 → knownOf (cleared n p) q t ≡ keepIf (not (eqb (q .0) (p .0))) (knownOf n q t)
 unfolding cleared
 known-cleared {n} s p q t hq ht = edit-spot (λ x y w. keepIf (not (eqb x (p .0))) w) (n .known) q t (s .known) hq ht
 
+-- p knows nobody.
 pub knows-cleared : {n : Network} → Shaped n → (p q : Peer) (t : Topic) (c : Peer) → q .0 < 32 → t .0 < 32 → knows (cleared n p) q t c ≡ not (eqb (q .0) (p .0)) && knows n q t c
 knows-cleared {n} s p q t c hq ht = ap (λ (w : ℕ). has w (c .0)) (known-cleared s p q t hq ht) ∙ has-keepIf (not (eqb (q .0) (p .0))) (knownOf n q t) (c .0)
 
@@ -156,20 +159,22 @@ cleared-absent {n} s p hp a =
 
 -- ---- a record is made, with these topics
 
--- p is present; its topics are these; what the others have is as it was.
+-- p is present. Here and in the two laws that follow, what the others have is as it was.
 pub present-placed : (n : Network) (p : Peer) (subs pubs : ℕ) (q : Peer) → present (placed n p subs pubs) q ≡ present n q || eqb (q .0) (p .0)
 unfolding placed
-present-placed n p subs pubs q = has-union (n .present) (only (p .0)) (q .0) ∙ ap (λ (x : Bool). present n q || x) (has-only (p .0) (q .0) ∙ eqb-turn (p .0) (q .0))
+present-placed n p subs pubs q = has-union (n .present) (only (p .0)) (q .0) ∙ ap (λ (x : Bool). present n q || x) (has-only (p .0) (q .0) ∙ eqb-sym (p .0) (q .0))
 
+-- p subscribes to `subs`.
 pub subscribed-placed : {n : Network} → Shaped n → (p : Peer) (subs pubs : ℕ) → p .0 < 32 → (q : Peer) (t : Topic)
     → subscribed (placed n p subs pubs) q t ≡ cond (eqb (q .0) (p .0)) (has subs (t .0)) (subscribed n q t)
 unfolding placed
-subscribed-placed {n} s p subs pubs hp q t = has-set (n .subs) (p .0) (q .0) subs (t .0) (omega (arith, s .subs))
+subscribed-placed {n} s p subs pubs hp q t = has-set (n .subs) (p .0) subs (q .0) (t .0) (omega (arith, s .subs))
 
+-- p publishes `pubs`.
 pub publishes-placed : {n : Network} → Shaped n → (p : Peer) (subs pubs : ℕ) → p .0 < 32 → (q : Peer) (t : Topic)
     → publishes (placed n p subs pubs) q t ≡ cond (eqb (q .0) (p .0)) (has pubs (t .0)) (publishes n q t)
 unfolding placed
-publishes-placed {n} s p subs pubs hp q t = has-set (n .pubs) (p .0) (q .0) pubs (t .0) (omega (arith, s .pubs))
+publishes-placed {n} s p subs pubs hp q t = has-set (n .pubs) (p .0) pubs (q .0) (t .0) (omega (arith, s .pubs))
 
 -- What it leaves: the links, the known subscribers, the messages pending and seen.
 pub record SameButPlace (n m : Network) : Type 0 where
@@ -178,6 +183,7 @@ pub record SameButPlace (n m : Network) : Type 0 where
   pub seen : m .seen ≡ n .seen
   pub known : m .known ≡ n .known
 
+-- A record that is made leaves these.
 pub placed-rest : (n : Network) (p : Peer) (subs pubs : ℕ) → SameButPlace n (placed n p subs pubs)
 unfolding placed
 placed-rest n p subs pubs = record { neighbours = refl; pending = refl; seen = refl; known = refl }

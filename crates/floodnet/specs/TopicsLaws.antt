@@ -2,29 +2,31 @@
 -- nothing leave the network as it was. Assumes nothing.
 use mathlib.Core.Path.{_≡_, refl, sym, ap, ap₂, _∙_}
 use mathlib.Core.Logic.{_⊎_, inl, inr}
-use mathlib.Core.Bool.{Bool, true, false, not, cond, _&&_, _||_, and-true, and-false, and-comm, or-false, and-or-distrib-left}
+use mathlib.Core.Bool.{Bool, true, false, not, cond, _&&_, _||_, and-true, and-false, or-false}
 use mathlib.Core.List.{List}
-use Prim.Native.Nat.{ℕ, _+_, _*_, _/_, _%_, _^_, _≤_, _<_}
+use Prim.Native.Nat.{ℕ, _/_, _%_, _^_, _<_}
 use native.Mathlib.Omega.{arith}
-use borrow.Author.Tests.{eqb-true, eqb-false}
+use borrow.Author.Tests.{eqb-true}
 use lib.Dec.{eqb}
 use lib.ListN.{length, getD, set, length-set}
 use lib.Seq.{getD-set-other, set-getD}
-use Rattle.sets.specs.Set.{has, union, minus, only, withIf}
+use Rattle.sets.specs.Set.{has, union, minus, withIf}
 use Rattle.sets.specs.Bools.{either, clash, and-both, and-yes, or-right, and-eqb}
 use Rattle.sets.specs.Members.{has-union, has-minus, has-none}
-use Rattle.sets.specs.Bounds.{has-in, union-lt, minus-lt}
+use Rattle.sets.specs.Bounds.{union-lt, minus-lt}
 use Rattle.sets.specs.Build.{has-withIf, withIf-lt}
 use Rattle.sets.specs.Lowest.{none-empty}
 use Rattle.sets.specs.Sizes.{with-member, without-stranger}
-use Rattle.lists.specs.Edit.{edit, length-edit, edit-below, edit-none}
+use Rattle.lists.specs.Edit.{length-edit, edit-below, edit-none}
 use Rattle.network.specs.declared.Peer.{Peer}
 use Rattle.network.specs.declared.Topic.{Topic}
 use Rattle.network.specs.declared.Network.{Network}
-use Rattle.network.specs.Network.{mk, peer, topic, spot, subsOf, neighboursOf, knownOf, present, linked, subscribed, knows, Shaped}
+use Rattle.network.specs.Network.{mk, peer, topic, subsOf, neighboursOf, knownOf, present, linked, subscribed, knows, Shaped}
 use Rattle.network.specs.Sound.{Sound, Empty}
+use Rattle.network.specs.SoundLaws.{linked-other}
 use Rattle.floodnet.specs.Topics.{withoutIf, noted, struck, subscribedTo, unsubscribedFrom}
-use Rattle.floodnet.specs.Places.{has-withoutIf, withoutIf-lt, eqb-turn, getD-set, set-below, spot-of, edit-spot, linked-to, linked-turn}
+use Rattle.floodnet.specs.SoundBase.{eqb-sym, set-below}
+use Rattle.floodnet.specs.Places.{has-withoutIf, withoutIf-lt, getD-set, spot-of, edit-spot, linked-turn}
 
 -- ---- the observations, one law each
 
@@ -36,10 +38,12 @@ pub record SameButTopics (n m : Network) : Type 0 where
   pub pending : m .pending ≡ n .pending
   pub seen : m .seen ≡ n .seen
 
+-- A subscribe changes nothing else.
 pub subscribed-rest : (n : Network) (p : Peer) (topics : ℕ) → SameButTopics n (subscribedTo n p topics)
 unfolding subscribedTo
 subscribed-rest n p topics = record { present = refl; pubs = refl; neighbours = refl; pending = refl; seen = refl }
 
+-- Nor does an unsubscribe.
 pub unsubscribed-rest : (n : Network) (p : Peer) (topics : ℕ) → SameButTopics n (unsubscribedFrom n p topics)
 unfolding unsubscribedFrom
 unsubscribed-rest n p topics = record { present = refl; pubs = refl; neighbours = refl; pending = refl; seen = refl }
@@ -145,12 +149,14 @@ retopic-sound {n} p v known s here shape law =
 
 -- ---- shape and soundness stay
 
+-- A subscribe keeps the shape.
 pub subscribed-shaped : {n : Network} → Shaped n → (p : Peer) (topics : ℕ) → p .0 < 32 → topics < 2 ^ 32 → Shaped (subscribedTo n p topics)
 unfolding subscribedTo noted
 subscribed-shaped {n} s p topics hp ht =
     retopic-shaped p _ _ s (union-lt 32 (subsOf n p) topics (s .subs-fit (p .0)) ht) (length-edit _ (n .known) ∙ s .known)
     (edit-below _ (n .known) (2 ^ 32) (omega arith) (λ i h. withIf-lt 32 _ (p .0) (getD (n .known) i 0) hp (s .known-fit i)))
 
+-- So does an unsubscribe.
 pub unsubscribed-shaped : {n : Network} → Shaped n → (p : Peer) (topics : ℕ) → Shaped (unsubscribedFrom n p topics)
 unfolding unsubscribedFrom struck
 unsubscribed-shaped {n} s p topics =
@@ -161,6 +167,7 @@ unsubscribed-shaped {n} s p topics =
 turned : {n : Network} → Sound n → (p q c : Peer) → linked n p q && eqb (p .0) (c .0) ≡ linked n q c && eqb (p .0) (c .0)
 turned {n} s p q c = ap (λ (x : Bool). x && eqb (p .0) (c .0)) (linked-turn s p q) ∙ sym (and-eqb (has (neighboursOf n q)) (p .0) (c .0))
 
+-- A subscribe by a present peer keeps a network sound.
 pub subscribed-sound : {n : Network} → Sound n → (p : Peer) (topics : ℕ) → present n p ≡ true → p .0 < 32 → topics < 2 ^ 32 → Sound (subscribedTo n p topics)
 unfolding subscribedTo noted
 subscribed-sound {n} s p topics here hp ht =
@@ -168,7 +175,7 @@ subscribed-sound {n} s p topics here hp ht =
     knows-more (s .shaped) p topics q t c hq b
     ∙ ap (λ (x : Bool). x || ((linked n p q && has topics (t .0)) && eqb (p .0) (c .0))) (s .knows q t c hq b)
     ∙ go (linked n q c) (subscribed n c t) (has topics (t .0)) (eqb (p .0) (c .0)) (linked n p q) (turned s p q c)
-    ∙ ap (λ (x : Bool). linked n q c && (subscribed n c t || (x && has topics (t .0)))) (eqb-turn (p .0) (c .0))
+    ∙ ap (λ (x : Bool). linked n q c && (subscribed n c t || (x && has topics (t .0)))) (eqb-sym (p .0) (c .0))
     ∙ ap (λ (x : Bool). linked n q c && x) (sym (subscribed-more (s .shaped) p topics hp c t))
   where
     go : (l s t e a : Bool) → a && e ≡ l && e → (l && s) || ((a && t) && e) ≡ l && (s || (e && t))
@@ -179,6 +186,7 @@ subscribed-sound {n} s p topics here hp ht =
         each false s t = refl
     go l s t false a h = rw (and-false (a && t), or-false (l && s), or-false s)
 
+-- So does an unsubscribe.
 pub unsubscribed-sound : {n : Network} → Sound n → (p : Peer) (topics : ℕ) → present n p ≡ true → p .0 < 32 → Sound (unsubscribedFrom n p topics)
 unfolding unsubscribedFrom struck
 unsubscribed-sound {n} s p topics here hp =
@@ -186,7 +194,7 @@ unsubscribed-sound {n} s p topics here hp =
     knows-less (s .shaped) p topics q t c hq b
     ∙ ap (λ (x : Bool). x && not ((linked n p q && has topics (t .0)) && eqb (p .0) (c .0))) (s .knows q t c hq b)
     ∙ go (linked n q c) (subscribed n c t) (has topics (t .0)) (eqb (p .0) (c .0)) (linked n p q) (turned s p q c)
-    ∙ ap (λ (x : Bool). linked n q c && (subscribed n c t && not (x && has topics (t .0)))) (eqb-turn (p .0) (c .0))
+    ∙ ap (λ (x : Bool). linked n q c && (subscribed n c t && not (x && has topics (t .0)))) (eqb-sym (p .0) (c .0))
     ∙ ap (λ (x : Bool). linked n q c && x) (sym (subscribed-less (s .shaped) p topics hp c t))
   where
     go : (l s t e a : Bool) → a && e ≡ l && e → (l && s) && not ((a && t) && e) ≡ l && (s && not (e && t))
@@ -219,7 +227,7 @@ subscribed-same {n} s p topics e =
         let both = and-yes (linked n p (peer (i / 32))) (has topics (i % 32)) y in
         let q : Peer = peer (i / 32) in
         let t : Topic = topic (i % 32) in
-        let known : knows n q t p ≡ true = s .knows q t p (linked-to (s .shaped) p q (both .0)) (omega arith) ∙ and-both (s .back p q (both .0)) (old t (both .1)) in
+        let known : knows n q t p ≡ true = s .knows q t p (linked-other (s .shaped) p q (both .0)) (omega arith) ∙ and-both (s .back p q (both .0)) (old t (both .1)) in
         rw y (with-member (getD (n .known) i 0) (p .0) (ap (λ (w : ℕ). has w (p .0)) (sym (at-place n i)) ∙ known))
     go i (inr y) = rw y
 
@@ -239,6 +247,6 @@ unsubscribed-same {n} s p topics e =
         let both = and-yes (linked n p (peer (i / 32))) (has topics (i % 32)) y in
         let q : Peer = peer (i / 32) in
         let t : Topic = topic (i % 32) in
-        let known : knows n q t p ≡ false = s .knows q t p (linked-to (s .shaped) p q (both .0)) (omega arith) ∙ rw (old t (both .1)) (and-false (linked n q p)) in
+        let known : knows n q t p ≡ false = s .knows q t p (linked-other (s .shaped) p q (both .0)) (omega arith) ∙ rw (old t (both .1)) (and-false (linked n q p)) in
         rw y (without-stranger (getD (n .known) i 0) (p .0) (ap (λ (w : ℕ). has w (p .0)) (sym (at-place n i)) ∙ known))
     go i (inr y) = rw y

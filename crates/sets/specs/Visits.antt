@@ -47,7 +47,8 @@ visit-step left s q h e = ext (minus s (minus left (only q))) (union (minus s le
     go i false t = rw (and-true (has left i), or-false (has s i && not (has left i)))
 
 -- The members then: those before, and q.
-pub visit-has : (left s q : ℕ) → Subset left s → has left q ≡ true → (i : ℕ) → has (minus s (minus left (only q))) i ≡ has (minus s left) i || eqb q i
+pub visit-has : (left s q : ℕ) → Subset left s → has left q ≡ true → (i : ℕ)
+    → has (minus s (minus left (only q))) i ≡ has (minus s left) i || eqb q i
 visit-has left s q h e i = ap (λ (x : ℕ). has x i) (visit-step left s q h e) ∙ simp (has-union, has-only)
 
 -- It had not been visited.
@@ -101,7 +102,8 @@ visit-none k s p h = record {
 }
 
 -- The least that is left is visited.
-visit-any : (k s left r : ℕ) (p : ℕ → Bool) → Visit k s left r p → 0 < left → Visit k s (minus left (only (lowest k left))) (withIf (p (lowest k left)) (lowest k left) r) p
+visit-any : (k s left r : ℕ) (p : ℕ → Bool) → Visit k s left r p → 0 < left
+    → Visit k s (minus left (only (lowest k left))) (withIf (p (lowest k left)) (lowest k left) r) p
 visit-any k s left r p v h = record {
   below = minus-lt k left (only (lowest k left)) (v .below);
   within = subset-step left s (only (lowest k left)) (v .within);

@@ -14,14 +14,15 @@ use Rattle.sets.specs.Any.{any, any-yes, any-why, any-none}
 use Rattle.sets.specs.Members.{has-union, has-minus, has-none, ext}
 use Rattle.sets.specs.Bounds.{has-out, union-lt, minus-lt}
 use Rattle.sets.specs.Build.{has-setOf, setOf-lt}
-use Rattle.lists.specs.Edit.{edit, length-edit, edit-below, edit-none}
+use Rattle.lists.specs.Edit.{edit, length-edit, edit-below, edit-none, is-edit}
+use Rattle.lists.specs.Tab.{Filled}
 use Rattle.network.specs.declared.Peer.{Peer}
 use Rattle.network.specs.declared.Message.{Message}
 use Rattle.network.specs.declared.Network.{Network}
-use Rattle.network.specs.Network.{peer, message, pending, saw, seenOf, Shaped}
+use Rattle.network.specs.Network.{mk, peer, message, pending, saw, seenOf, Shaped}
 use Rattle.floodnet.specs.SoundBase.{has-beyond, has-edit, has-edit-with}
 use Rattle.broadcastnet.specs.Broadcast.{Broadcastnet, sawIn, broadcastPartial}
-use Rattle.broadcastnet.specs.Commit.{somewhere, whoSaw, together, underway, without, image}
+use Rattle.broadcastnet.specs.Commit.{somewhere, whoSaw, together, underway, without, image, asNetwork, imageNet}
 
 -- ---- states of Broadcastnet
 
@@ -66,12 +67,24 @@ pub has-underway : (n : Network) (m : Message) → has (underway n) (m .0) ≡ s
 unfolding underway somewhere
 has-underway n m = has-together 32 (n .pending) (m .0)
 
--- One word more.
-pub together-more : (k : ℕ) (l : List ℕ) → together (k + 1) l ≡ union (together k l) (getD l k 0)
+-- A loop that joins them one by one: one word more.
+pub together-more : {w r : ℕ} (k : ℕ) (l : List ℕ) → w ≡ together k l → r ≡ union w (getD l k 0) → r ≡ together (k + 1) l
 unfolding together
-together-more k l = ap (λ (x : ℕ). together x l) (add-one k)
+together-more k l e h = h ∙ ap (λ (x : ℕ). union x (getD l k 0)) e ∙ sym (ap (λ (x : ℕ). together x l) (add-one k))
+
+-- Sets filled in from the front, each without w, are in the end all of them without w.
+pub without-filled : (w : ℕ) (l : List ℕ) {r : List ℕ} → length l ≡ 32 → Filled 32 (λ (i : ℕ). minus (getD l i 0) w) 32 r → r ≡ without w l
+unfolding without
+without-filled w l {r} e h = is-edit (λ q x. minus x w) l r (h .long ∙ sym e) λ i b. h .front i (omega (arith, e))
 
 -- ---- the image
+
+-- The image as it is written, from the messages under way and the sets without them.
+pub imageNet-made : (n : Network) {w : ℕ} {l : List ℕ} → w ≡ together 32 (n .pending) → l ≡ without w (n .seen)
+    → mk (n .present) (n .pubs) (n .subs) (replicate 32 0) (replicate 32 0) l (replicate 1024 0) ≡ imageNet n
+unfolding imageNet asNetwork image underway
+imageNet-made n e h =
+    ap (λ (x : List ℕ). mk (n .present) (n .pubs) (n .subs) (replicate 32 0) (replicate 32 0) x (replicate 1024 0)) (h ∙ ap (λ (x : ℕ). without x (n .seen)) e)
 
 -- A peer has m in the image if it has seen it, and m is pending nowhere.
 pub image-saw : (n : Network) (q : Peer) (m : Message) → sawIn (image n) q m ≡ saw n q m && not (somewhere n m)

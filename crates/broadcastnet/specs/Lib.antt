@@ -2,3 +2,4 @@ pub mod Broadcast
 pub mod Commit
 pub mod Page
 pub mod CommitLaws
+pub mod ImageNet

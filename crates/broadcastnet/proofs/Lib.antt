@@ -1,0 +1,3 @@
+pub mod Messages
+pub mod Members
+pub mod Refines

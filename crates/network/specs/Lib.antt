@@ -9,4 +9,5 @@ pub mod State
 pub mod Layout
 pub mod Opening
 pub mod Rows
+pub mod Listing
 pub mod SoundLaws

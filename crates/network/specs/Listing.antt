@@ -6,13 +6,14 @@ use Prim.Native.Nat.{ℕ, _+_, _*_, _≤_, _<_}
 use native.Mathlib.Nat.{add-zero}
 use native.Mathlib.Omega.{arith}
 use lib.Dec.{eqb, ltb}
-use lib.ListN.{length, getD, replicate, length-replicate, getD-replicate}
-use borrow.Author.Tests.{lt-ltb, le-ltb, eq-eqb, ltb-true, eqb-true}
+use lib.ListN.{length, getD, replicate, length-replicate}
+use borrow.Author.Tests.{lt-ltb, le-ltb, eq-eqb, ltb-true, ltb-false, eqb-true}
 use Rattle.sets.specs.Bools.{ne-eqb, and-yes, and-both, not-false, not-no}
 use Rattle.sets.specs.Least.{lowestOf-least}
 use Rattle.lists.specs.Tab.{tab, length-tab, tab-below}
 use Rattle.network.specs.declared.Table.{Table}
 use Rattle.network.specs.Network.{Rows}
+use Rattle.network.specs.Zeros.{getD-zeros}
 use Rattle.network.specs.Rows.{byteIn, rowRight, badRow, columns, tableOf, blankTable, listed, listOf}
 
 -- the first byte of a row
@@ -54,3 +55,39 @@ pub list-0 : (b : List ℕ) (r : ℕ) {topics origins : List ℕ} → length b �
     → listed 0 0 (columns topics origins) ≡ listOf b
 unfolding listOf tableOf
 list-0 b r h e l et eo = rw (eq-eqb (length b) 256 h, le-ltb (badRow b) 64 (rw e at l), et, eo)
+
+-- ---- what is accepted
+
+-- a table of zeros has all topics and origins in range
+pub blank-rows : Rows blankTable
+unfolding blankTable
+blank-rows = record {
+  topics = length-replicate {A = ℕ} 64 0;
+  origins = length-replicate {A = ℕ} 64 0;
+  topics-fit = λ i. rw (getD-zeros 64 i) (omega arith);
+  origins-fit = λ i. rw (getD-zeros 64 i) (omega arith);
+}
+
+-- so has a table all of whose rows are right
+pub table-rows : (b : List ℕ) → 64 ≤ badRow b → Rows (tableOf b)
+unfolding tableOf badRow
+table-rows b h =
+    record {
+      topics = length-tab 64 _;
+      origins = length-tab 64 _;
+      topics-fit = tab-below 64 _ 32 (omega arith) λ r l. right r l .topic;
+      origins-fit = tab-below 64 _ 32 (omega arith) λ r l. right r l .origin;
+    }
+  where
+    right : (r : ℕ) → r < 64 → Right b r
+    right r l = row-why b r (not-no (rowRight b r) (lowestOf-least 64 (λ (i : ℕ). not (rowRight b i)) r (omega arith)))
+
+-- "A lent table of 64 rows gives topic and origin": what reading answers always has them in range
+pub listed-rows : (b : List ℕ) → Rows (listOf b .table)
+unfolding listOf
+listed-rows b = go (eqb (length b) 256) (ltb (badRow b) 64) refl
+  where
+    go : (x y : Bool) → ltb (badRow b) 64 ≡ y → Rows ((cond x (cond y (listed 4 (badRow b) blankTable) (listed 0 0 (tableOf b))) (listed 2 0 blankTable)) .table)
+    go true true e = blank-rows
+    go true false e = table-rows b (ltb-false (badRow b) 64 e)
+    go false y e = blank-rows

@@ -9,6 +9,7 @@ pub mod State
 pub mod Zeros
 pub mod Layout
 pub mod Opening
+pub mod Storing
 pub mod Rows
 pub mod Listing
 pub mod SoundLaws

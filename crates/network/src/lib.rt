@@ -4,9 +4,11 @@
 mod load;
 mod rows;
 mod rules;
+mod store;
 
 ghost use mathlib.Core.Path.{_≡_};
-ghost use Rattle.network.specs.State.{blankNet, openOf};
+ghost use lib.ListN.{length};
+ghost use Rattle.network.specs.State.{blankNet, openOf, bytesOf};
 ghost use Rattle.network.specs.Rows.{blankTable, listOf};
 
 // "A peer number, a topic number and a message number are separate sorts": none stands where another is meant.
@@ -90,6 +92,20 @@ pub fn read(state: &[u8]) -> Opened
     }
     let network = Network { present, pubs, subs, neighbours, pending, seen, known };
     Opened { number: 0, place: 0, network }
+}
+
+// Writes the network's bytes.
+pub fn put(n: Network, state: &mut [u8])
+    requires { ⌜ length (now state) ≡ 5120 ⌝ }
+    ensures { λ r. ⌜ now (state .exit) ≡ bytesOf n ⌝ }
+{
+    let mut p: usize = 0;
+    while p < 32 {
+        let head = store::head(n.present, p as u32);
+        store::words(&mut *state, p, head, n.pubs[p], n.subs[p], n.neighbours[p], n.pending[p], n.seen[p]);
+        store::row(&mut *state, &n.known, p);
+        p += 1;
+    }
 }
 
 // The table that the rows say. Refused by 2, then by 4 with the lowest bad row, with a table of zeros.

@@ -6,7 +6,10 @@ pub mod Tests
 pub mod Joining
 pub mod Backing
 pub mod State
+pub mod Zeros
 pub mod Layout
 pub mod Opening
+pub mod Storing
 pub mod Rows
+pub mod Listing
 pub mod SoundLaws

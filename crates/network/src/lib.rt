@@ -2,10 +2,14 @@
 // "Numbers and state", "Records"). Read specs/Network.antt (the state and what can be observed of it), specs/Rules.antt
 // (soundness, rule by rule), specs/State.antt (the records) and specs/Rows.antt (the message table).
 mod load;
+mod rows;
 mod rules;
+mod store;
 
 ghost use mathlib.Core.Path.{_≡_};
-ghost use Rattle.network.specs.State.{blankNet, openOf};
+ghost use lib.ListN.{length};
+ghost use Rattle.network.specs.State.{blankNet, openOf, bytesOf};
+ghost use Rattle.network.specs.Rows.{blankTable, listOf};
 
 // "A peer number, a topic number and a message number are separate sorts": none stands where another is meant.
 pub struct Peer(pub u8);
@@ -88,4 +92,41 @@ pub fn read(state: &[u8]) -> Opened
     }
     let network = Network { present, pubs, subs, neighbours, pending, seen, known };
     Opened { number: 0, place: 0, network }
+}
+
+// Writes the network's bytes.
+pub fn put(n: Network, state: &mut [u8])
+    requires { ⌜ length (now state) ≡ 5120 ⌝ }
+    ensures { λ r. ⌜ now (state .exit) ≡ bytesOf n ⌝ }
+{
+    let mut p: usize = 0;
+    while p < 32 {
+        let head = store::head(n.present, p as u32);
+        store::words(&mut *state, p, head, n.pubs[p], n.subs[p], n.neighbours[p], n.pending[p], n.seen[p]);
+        store::row(&mut *state, &n.known, p);
+        p += 1;
+    }
+}
+
+// The table that the rows say. Refused by 2, then by 4 with the lowest bad row, with a table of zeros.
+pub fn read_table(table: &[u8]) -> Listed
+    ensures { λ r. ⌜ r ≡ listOf (now (table .entry)) ⌝ }
+{
+    if table.len() != 256 {
+        return Listed { number: 2, place: 0, table: blank_table() };
+    }
+    let r = rows::bad(table);
+    if r < 64 {
+        return Listed { number: 4, place: r, table: blank_table() };
+    }
+    let topics = rows::column(table, 0);
+    let origins = rows::column(table, 1);
+    Listed { number: 0, place: 0, table: Table { topics, origins } }
+}
+
+// A table of zeros.
+fn blank_table() -> Table
+    ensures { λ r. ⌜ r ≡ blankTable ⌝ }
+{
+    Table { topics: [0u8; 64], origins: [0u8; 64] }
 }

@@ -7,3 +7,4 @@ pub mod RunSound
 pub mod Going
 pub mod RunBefore
 pub mod Alone
+pub mod StartLaws

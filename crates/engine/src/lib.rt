@@ -1,5 +1,6 @@
 // The engine: the entry points that a host calls (document 01, "Numbers returned").
 mod counts; // counts.rt: the update of the tally
+mod start; // start.rt: the refusals 1 to 5
 
 use network::Network;
 use network::Table;

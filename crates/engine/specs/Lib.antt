@@ -8,3 +8,4 @@ pub mod Going
 pub mod RunBefore
 pub mod Alone
 pub mod StartLaws
+pub mod AloneLaws

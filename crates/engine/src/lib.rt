@@ -1,4 +1,5 @@
 // The engine: the entry points that a host calls (document 01, "Numbers returned").
+mod alone; // alone.rt: reading, writing and the single forward
 mod counts; // counts.rt: the update of the tally
 mod start; // start.rt: the refusals 1 to 5
 

@@ -6,3 +6,4 @@ pub mod CodeVisit
 pub mod CodeWhen
 pub mod CodeArrays
 pub mod CodeRows
+pub mod CodeWalks

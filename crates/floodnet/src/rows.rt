@@ -9,6 +9,7 @@ ghost use Rattle.sets.specs.Set.{has, only};
 ghost use Rattle.lists.specs.Edit.{edit};
 ghost use Rattle.floodnet.specs.Topics.{withoutIf, noted, struck};
 ghost use Rattle.floodnet.specs.Links.{minusIf, keepIf};
+ghost use Rattle.floodnet.specs.CodeWalks.{learnt};
 
 use network::Peer;
 
@@ -62,5 +63,59 @@ pub(crate) fn row_clear(known: &mut [u32; 1024], row: Peer)
     let r = row.0 as usize;
     for t in 0..32 {
         known[r * 32 + t] = 0;
+    }
+}
+
+// Each of `who` knows p for each of these topics.
+pub(crate) fn note_all(known: &mut [u32; 1024], who: u32, topics: u32, p: Peer)
+    requires { ⌜ p .0 < 32 ⌝ }
+    ensures { λ z. ⌜ now (known .exit) ≡ noted who topics p (now (known .entry)) ⌝ }
+{
+    let mut left = who;
+    while left != 0 {
+        let q = Peer(sets::lowest32(left) as u8);
+        row_note(&mut *known, q, topics, p);
+        left = sets::rest32(left);
+    }
+}
+
+// None of `who` knows p for any of these topics.
+pub(crate) fn strike_all(known: &mut [u32; 1024], who: u32, topics: u32, p: Peer)
+    requires { ⌜ p .0 < 32 ⌝ }
+    ensures { λ z. ⌜ now (known .exit) ≡ struck who topics p (now (known .entry)) ⌝ }
+{
+    let mut left = who;
+    while left != 0 {
+        let q = Peer(sets::lowest32(left) as u8);
+        row_strike(&mut *known, q, topics, p);
+        left = sets::rest32(left);
+    }
+}
+
+// None of `who` knows p for any topic.
+pub(crate) fn drop_all(known: &mut [u32; 1024], who: u32, p: Peer)
+    requires { ⌜ p .0 < 32 ⌝ }
+    ensures { λ z. ⌜ now (known .exit) ≡ edit (λ i w. withoutIf (has who (i / 32)) (p .0) w) (now (known .entry)) ⌝ }
+{
+    let own = sets::with32(0, p.0 as u32);
+    let mut left = who;
+    while left != 0 {
+        let q = Peer(sets::lowest32(left) as u8);
+        row_minus(&mut *known, q, own);
+        left = sets::rest32(left);
+    }
+}
+
+// p knows each of `who` for each of its topics.
+pub(crate) fn learn(known: &mut [u32; 1024], p: Peer, subs: &[u32; 32], who: u32)
+    requires { ⌜ p .0 < 32 ⌝ }
+    ensures { λ z. ⌜ now (known .exit) ≡ edit (learnt (p .0) (now (subs .entry)) who) (now (known .entry)) ⌝ }
+{
+    let mut left = who;
+    while left != 0 {
+        let q = sets::lowest32(left);
+        let topics = subs[q as usize];
+        row_note(&mut *known, p, topics, Peer(q as u8));
+        left = sets::rest32(left);
     }
 }

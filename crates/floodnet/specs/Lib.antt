@@ -7,3 +7,4 @@ pub mod CodeWhen
 pub mod CodeArrays
 pub mod CodeRows
 pub mod CodeWalks
+pub mod CodeForward

@@ -2,3 +2,4 @@
 // in specs/: Produce, Forward, Topics, Links, and Step, which puts them together as 01's table.
 mod arrays; // arrays.rt: loops over the words of peers
 mod rows; // rows.rt: loops over the rows of `known`
+mod effects; // effects.rt: what the events do

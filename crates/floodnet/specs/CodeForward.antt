@@ -23,6 +23,16 @@ table topics origins = record { topics = topics; origins = origins }
 abbrev pub ofMessages : List ℕ → List ℕ → List ℕ → Network
 ofMessages pending seen known = mk 0 [] [] [] pending seen known
 
+-- `produce`
+pub produced-law : (e : List ℕ) (p : Peer) (m : Message) (v : ℕ) → v ≡ union (getD e (p .0) 0) (only (m .0)) → ofMessages (set e (p .0) v) [] [] ≡ produced (ofMessages e [] []) p m
+unfolding produced
+produced-law e p m v h = ap (λ (x : ℕ). ofMessages (set e (p .0) x) [] []) h
+
+pub produced-lift : (a : ℕ) (b c d e f g e′ : List ℕ) (p : Peer) (m : Message) → ofMessages e′ [] [] ≡ produced (ofMessages e [] []) p m
+    → mk a b c d e′ f g ≡ produced (mk a b c d e f g) p m
+unfolding produced
+produced-lift a b c d e f g e′ p m h = ap (λ (n : Network). mk a b c d (n .pending) f g) h
+
 -- `forward`: v and w are the words of p once m has moved, and r is what is left of those that p knows
 module _ (e f g ts : List ℕ) (p : Peer) (m : Message) where
   near : ℕ

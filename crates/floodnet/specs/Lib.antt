@@ -8,3 +8,4 @@ pub mod CodeArrays
 pub mod CodeRows
 pub mod CodeWalks
 pub mod CodeForward
+pub mod CodeLinks

@@ -2,4 +2,5 @@
 // in specs/: Produce, Forward, Topics, Links, and Step, which puts them together as 01's table.
 mod arrays; // arrays.rt: loops over the words of peers
 mod rows; // rows.rt: loops over the rows of `known`
-mod effects; // effects.rt: what the events do
+mod messages; // messages.rt: what produce and forward do
+mod links; // links.rt: what subscribe, unsubscribe, leave and join do

@@ -1,16 +1,26 @@
-// What the events do, on the arrays that they touch (specs/Produce, Forward, Topics, Links). A contract is one equation
-// between networks that have these arrays and nothing else; specs/CodeParts.antt lifts it to the whole network.
+// What produce and forward do, on the arrays that they touch (specs/Produce.antt, specs/Forward.antt). A contract
+// is one equation between networks that have these arrays and nothing else; specs/CodeForward.antt lifts it to the whole
+// network.
 ghost use mathlib.Core.Path.{_≡_};
 ghost use mathlib.Core.List.{[]};
 ghost use Prim.Native.Nat.{_<_};
 ghost use lib.ListN.{getD};
+ghost use Rattle.floodnet.specs.Produce.{produced};
 ghost use Rattle.floodnet.specs.Forward.{receivers, forwarded};
 ghost use Rattle.floodnet.specs.CodeForward.{table, ofMessages};
 
 use super::arrays;
-use super::rows;
 use network::Message;
 use network::Peer;
+
+// m becomes pending at p.
+pub(crate) fn produce(pending: &mut [u64; 32], p: Peer, m: Message)
+    requires { ⌜ (p .0 < 32) × (m .0 < 64) ⌝ }
+    ensures { λ z. ⌜ ofMessages (now (pending .exit)) [] [] ≡ produced (ofMessages (now (pending .entry)) [] []) p m ⌝ }
+{
+    let i = p.0 as usize;
+    pending[i] = sets::with64(pending[i], m.0 as u32);
+}
 
 // Forward of m by p: m moves from pending to seen at p, and becomes pending at the receivers, whose set is answered.
 pub(crate) fn forward(

@@ -1,10 +1,10 @@
--- `floodnet::effects::forward` meets its contract. Assumes nothing.
+-- `floodnet::messages::forward` meets its contract. Assumes nothing.
 use borrow.Author.Needs.{needs}
 use Rattle.floodnet.specs.CodeForward.{receivers-law, forwarded-law}
-use Rattle.floodnet.proofs.effects.forward.Statement.{statement}
-use Rattle.floodnet.proofs.effects.forward.Tie as tie
-use Rattle.floodnet.proofs.effects.forward.Reads as reads
-use Rattle.floodnet.proofs.effects.forward.Lts as lts
+use Rattle.floodnet.proofs.messages.forward.Statement.{statement}
+use Rattle.floodnet.proofs.messages.forward.Tie as tie
+use Rattle.floodnet.proofs.messages.forward.Reads as reads
+use Rattle.floodnet.proofs.messages.forward.Lts as lts
 use Rattle.floodnet.proofs.arrays.give.Reads as give-reads
 use Rattle.floodnet.proofs.arrays.holders.Reads as holders-reads
 use Rattle.sets.proofs.minus32.Reads as minus32-reads

@@ -2,6 +2,7 @@ pub mod Produce
 pub mod Forward
 pub mod Topics
 pub mod Links
+pub mod Refusals
 pub mod CodeVisit
 pub mod CodeWhen
 pub mod CodeArrays
@@ -9,3 +10,4 @@ pub mod CodeRows
 pub mod CodeWalks
 pub mod CodeForward
 pub mod CodeLinks
+pub mod CodeRefusals

@@ -4,3 +4,4 @@ mod arrays; // arrays.rt: loops over the words of peers
 mod rows; // rows.rt: loops over the rows of `known`
 mod messages; // messages.rt: what produce and forward do
 mod links; // links.rt: what subscribe, unsubscribe, leave and join do
+mod refusals; // refusals.rt: what the events ask

@@ -2,8 +2,8 @@ use mathlib.Core.Path.{sym, _∙_}
 use Rattle.events.specs.Event.{skipOk}
 use borrow.Author.Tests.{eq-eqb, ne-eqb}
 use borrow.Author.Needs.{needs}
-use Rattle.events.proofs.skip_ok.Statement.{statement}
-use Rattle.events.proofs.skip_ok.Tie as tie
+use Rattle.events.proofs.judge.skip_ok.Statement.{statement}
+use Rattle.events.proofs.judge.skip_ok.Tie as tie
 
 returns : tie.Need-returns
 unfolding skipOk

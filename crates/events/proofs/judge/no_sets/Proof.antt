@@ -1,8 +1,8 @@
 use Rattle.events.specs.Event.{noSets}
 use borrow.Author.Tests.{eq-eqb, ne-eqb}
 use borrow.Author.Needs.{needs}
-use Rattle.events.proofs.no_sets.Statement.{statement}
-use Rattle.events.proofs.no_sets.Tie as tie
+use Rattle.events.proofs.judge.no_sets.Statement.{statement}
+use Rattle.events.proofs.judge.no_sets.Tie as tie
 
 returns : tie.Need-returns
 unfolding noSets

@@ -2,8 +2,8 @@ use mathlib.Core.Path.{sym, _∙_}
 use Rattle.events.specs.Event.{leaveOk}
 use borrow.Author.Tests.{le-ltb, lt-ltb}
 use borrow.Author.Needs.{needs}
-use Rattle.events.proofs.leave_ok.Statement.{statement}
-use Rattle.events.proofs.leave_ok.Tie as tie
+use Rattle.events.proofs.judge.leave_ok.Statement.{statement}
+use Rattle.events.proofs.judge.leave_ok.Tie as tie
 
 returns : tie.Need-returns
 unfolding leaveOk

@@ -1,8 +1,8 @@
 use Rattle.events.specs.Event.{pairOk}
 use borrow.Author.Tests.{le-ltb, lt-ltb, eq-eqb, ne-eqb}
 use borrow.Author.Needs.{needs}
-use Rattle.events.proofs.pair_ok.Statement.{statement}
-use Rattle.events.proofs.pair_ok.Tie as tie
+use Rattle.events.proofs.judge.pair_ok.Statement.{statement}
+use Rattle.events.proofs.judge.pair_ok.Tie as tie
 
 returns : tie.Need-returns
 unfolding pairOk

@@ -1,7 +1,7 @@
 use Rattle.events.specs.Event.{noMessage}
 use borrow.Author.Tests.{eq-eqb, ne-eqb}
-use Rattle.events.proofs.no_message.Statement.{statement}
-use Rattle.events.proofs.no_message.Tie as tie
+use Rattle.events.proofs.judge.no_message.Statement.{statement}
+use Rattle.events.proofs.judge.no_message.Tie as tie
 
 returns : tie.Need-returns
 unfolding noMessage

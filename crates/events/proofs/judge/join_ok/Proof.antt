@@ -1,8 +1,8 @@
 use Rattle.events.specs.Event.{joinOk}
 use borrow.Author.Tests.{le-ltb, lt-ltb}
 use borrow.Author.Needs.{needs}
-use Rattle.events.proofs.join_ok.Statement.{statement}
-use Rattle.events.proofs.join_ok.Tie as tie
+use Rattle.events.proofs.judge.join_ok.Statement.{statement}
+use Rattle.events.proofs.judge.join_ok.Tie as tie
 
 returns : tie.Need-returns
 unfolding joinOk

@@ -1,7 +1,7 @@
 use Rattle.events.specs.Event.{noMore}
 use borrow.Author.Tests.{eq-eqb, ne-eqb}
-use Rattle.events.proofs.no_more.Statement.{statement}
-use Rattle.events.proofs.no_more.Tie as tie
+use Rattle.events.proofs.judge.no_more.Statement.{statement}
+use Rattle.events.proofs.judge.no_more.Tie as tie
 
 returns : tie.Need-returns
 unfolding noMore

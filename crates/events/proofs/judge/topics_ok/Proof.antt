@@ -2,8 +2,8 @@ use mathlib.Core.Path.{sym, _∙_}
 use Rattle.events.specs.Event.{topicsOk}
 use borrow.Author.Tests.{le-ltb, lt-ltb}
 use borrow.Author.Needs.{needs}
-use Rattle.events.proofs.topics_ok.Statement.{statement}
-use Rattle.events.proofs.topics_ok.Tie as tie
+use Rattle.events.proofs.judge.topics_ok.Statement.{statement}
+use Rattle.events.proofs.judge.topics_ok.Tie as tie
 
 returns : tie.Need-returns
 unfolding topicsOk

@@ -3,6 +3,7 @@ pub mod Forward
 pub mod Topics
 pub mod Links
 pub mod Refusals
+pub mod Step
 pub mod CodeVisit
 pub mod CodeWhen
 pub mod CodeArrays
@@ -11,3 +12,4 @@ pub mod CodeWalks
 pub mod CodeForward
 pub mod CodeLinks
 pub mod CodeRefusals
+pub mod CodeTurns

@@ -13,6 +13,7 @@ use Rattle.network.specs.Network.{mk}
 use Rattle.events.specs.declared.Joining.{Joining}
 use Rattle.events.specs.declared.Event.{Event}
 use Rattle.events.specs.declared.Event.the-variants.{Skip, Produce, Forward, Subscribe, Unsubscribe, Leave, Join}
+use Rattle.events.specs.Fits.{EventFits}
 use Rattle.floodnet.specs.declared.Turned.{Turned}
 use Rattle.floodnet.specs.Produce.{holders, isNew, produced}
 use Rattle.floodnet.specs.Forward.{moved, receivers, given, forwarded, deliveries}
@@ -64,18 +65,18 @@ took-done {refuse} {kind} {d} {count} {effect} {n} {n′} {r} k e z h a c l = re
 
 -- what `step` promises of one event
 abbrev pub Stepped : Network → Network → Table → Event → Turned → Type 0
-Stepped n n′ b e r = (n′ ≡ after n b e) × (r ≡ turnedOf n b e) × (r .deliveries ≤ 32)
+Stepped n n′ b e r = (n′ ≡ after n b e) × ((r ≡ turnedOf n b e) × (r .deliveries ≤ 32))
 
 module _ (a : ℕ) (b c d e f g ts os : List ℕ) where
   pub step-skip : (r : Turned) → r ≡ turned 0 0 0 → Stepped (mk a b c d e f g) (mk a b c d e f g) (table ts os) Skip r
   unfolding after turnedOf turned refusal kindOf deliveriesOf ifAccepted effect
-  step-skip r h = (refl, h, rw h (omega arith))
+  step-skip r h = (refl, (h, rw h (omega arith)))
 
   pub step-produce : (e′ : List ℕ) (p : Peer) (m : Message) (r : Turned)
       → Took (λ n. refusalProduce n (table ts os) p m) 1 (λ n. 0) (λ n. produced n p m) (mk a b [] [] e f []) (mk a b [] [] e′ f []) r
       → Stepped (mk a b c d e f g) (mk a b c d e′ f g) (table ts os) (Produce p m) r
   unfolding after turnedOf refusal effect kindOf deliveriesOf ifAccepted produced refusalProduce isNew holders
-  step-produce e′ p m r t = (go (refusalProduce (mk a b c d e f g) (table ts os) p m) (t .state), t .answer, t .few)
+  step-produce e′ p m r t = (go (refusalProduce (mk a b c d e f g) (table ts os) p m) (t .state), (t .answer, t .few))
     where
       go : (k : ℕ) → mk a b [] [] e′ f [] ≡ ifAccepted k (produced (mk a b [] [] e f []) p m) (mk a b [] [] e f [])
           → mk a b c d e′ f g ≡ ifAccepted k (produced (mk a b c d e f g) p m) (mk a b c d e f g)
@@ -86,7 +87,7 @@ module _ (a : ℕ) (b c d e f g ts os : List ℕ) where
       → Took (λ n. refusalForward n p m) 2 (λ n. deliveries n (table ts []) p m) (λ n. forwarded n (table ts []) p m) (mk a [] [] [] e f g) (mk a [] [] [] e′ f′ g) r
       → Stepped (mk a b c d e f g) (mk a b c d e′ f′ g) (table ts os) (Forward p m) r
   unfolding after turnedOf refusal effect kindOf deliveriesOf ifAccepted refusalForward forwarded given deliveries receivers moved holders
-  step-forward e′ f′ p m r t = (go (refusalForward (mk a b c d e f g) p m) (t .state), t .answer, t .few)
+  step-forward e′ f′ p m r t = (go (refusalForward (mk a b c d e f g) p m) (t .state), (t .answer, t .few))
     where
       go : (k : ℕ) → mk a [] [] [] e′ f′ g ≡ ifAccepted k (forwarded (mk a [] [] [] e f g) (table ts []) p m) (mk a [] [] [] e f g)
           → mk a b c d e′ f′ g ≡ ifAccepted k (forwarded (mk a b c d e f g) (table ts os) p m) (mk a b c d e f g)
@@ -97,7 +98,7 @@ module _ (a : ℕ) (b c d e f g ts os : List ℕ) where
       → Took (λ n. refusalTopics n p) 0 (λ n. 0) (λ n. subscribedTo n p topics) (mk a [] c d [] [] g) (mk a [] c′ d [] [] g′) r
       → Stepped (mk a b c d e f g) (mk a b c′ d e f g′) (table ts os) (Subscribe p topics) r
   unfolding after turnedOf refusal effect kindOf deliveriesOf ifAccepted refusalTopics subscribedTo
-  step-subscribe c′ g′ p topics r t = (go (refusalTopics (mk a b c d e f g) p) (t .state), t .answer, t .few)
+  step-subscribe c′ g′ p topics r t = (go (refusalTopics (mk a b c d e f g) p) (t .state), (t .answer, t .few))
     where
       go : (k : ℕ) → mk a [] c′ d [] [] g′ ≡ ifAccepted k (subscribedTo (mk a [] c d [] [] g) p topics) (mk a [] c d [] [] g)
           → mk a b c′ d e f g′ ≡ ifAccepted k (subscribedTo (mk a b c d e f g) p topics) (mk a b c d e f g)
@@ -108,7 +109,7 @@ module _ (a : ℕ) (b c d e f g ts os : List ℕ) where
       → Took (λ n. refusalTopics n p) 0 (λ n. 0) (λ n. unsubscribedFrom n p topics) (mk a [] c d [] [] g) (mk a [] c′ d [] [] g′) r
       → Stepped (mk a b c d e f g) (mk a b c′ d e f g′) (table ts os) (Unsubscribe p topics) r
   unfolding after turnedOf refusal effect kindOf deliveriesOf ifAccepted refusalTopics unsubscribedFrom
-  step-unsubscribe c′ g′ p topics r t = (go (refusalTopics (mk a b c d e f g) p) (t .state), t .answer, t .few)
+  step-unsubscribe c′ g′ p topics r t = (go (refusalTopics (mk a b c d e f g) p) (t .state), (t .answer, t .few))
     where
       go : (k : ℕ) → mk a [] c′ d [] [] g′ ≡ ifAccepted k (unsubscribedFrom (mk a [] c d [] [] g) p topics) (mk a [] c d [] [] g)
           → mk a b c′ d e f g′ ≡ ifAccepted k (unsubscribedFrom (mk a b c d e f g) p topics) (mk a b c d e f g)
@@ -118,9 +119,17 @@ module _ (a : ℕ) (b c d e f g ts os : List ℕ) where
 -- leave and join touch all parts
 pub step-leave : (n n′ : Network) (b : Table) (p : Peer) (r : Turned) → Took (λ n. refusalLeave n p) 0 (λ n. 0) (λ n. left n p) n n′ r → Stepped n n′ b (Leave p) r
 unfolding after turnedOf refusal effect kindOf deliveriesOf
-step-leave n n′ b p r t = (t .state, t .answer, t .few)
+step-leave n n′ b p r t = (t .state, (t .answer, t .few))
 
 pub step-join : (n n′ : Network) (b : Table) (p : Peer) (j : Joining) (r : Turned)
     → Took (λ n. refusalJoin n p (j .neighbours)) 0 (λ n. 0) (λ n. joined n p (j .subs) (j .pubs) (j .neighbours)) n n′ r → Stepped n n′ b (Join p j) r
 unfolding after turnedOf refusal effect kindOf deliveriesOf
-step-join n n′ b p j r t = (t .state, t .answer, t .few)
+step-join n n′ b p j r t = (t .state, (t .answer, t .few))
+
+-- ---- the event is of the kind that was matched
+
+pub fits-as : {e e₀ : Event} → e ≡ e₀ → EventFits e → EventFits e₀
+fits-as {e} {e₀} h x = subst EventFits h x
+
+pub stepped-as : (n n′ : Network) (b : Table) {e e₀ : Event} {r : Turned} → e ≡ e₀ → Stepped n n′ b e₀ r → Stepped n n′ b e r
+stepped-as n n′ b {e} {e₀} {r} h x = subst (λ (y : Event). Stepped n n′ b y r) (sym h) x

@@ -15,7 +15,7 @@ use Rattle.events.specs.declared.Read.{Read}
 use Rattle.events.specs.declared.Read.the-variants.{Taken, End, Refused}
 use Rattle.events.specs.Event.{readAt}
 use Rattle.floodnet.specs.declared.Turned.{Turned}
-use Rattle.floodnet.specs.Step.{after, turnedOf, refusedBy}
+use Rattle.floodnet.specs.Step.{after, turnedOf}
 use Rattle.engine.specs.declared.Tally.{Tally}
 use Rattle.engine.specs.declared.Answer.{Answer}
 use Rattle.engine.specs.declared.Begun.{Begun}
@@ -46,6 +46,10 @@ talliedOf t kind d =
 pub record Outcome : Type 0 where
   pub turned : Turned
   pub network : Network
+
+-- nothing was done: refused by a number, or nothing was there (0)
+abbrev pub refusedBy : ℕ → Turned
+refusedBy number = record { number = number; kind = 0; deliveries = 0 }
 
 -- what was read is done, or refused by 6 or 7
 unfoldable pub turnOf : Table → Network → Read → Outcome

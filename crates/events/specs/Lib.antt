@@ -5,3 +5,4 @@ pub mod Decoded
 pub mod Bytes
 pub mod RoundTrip
 pub mod Settled
+pub mod Examples

@@ -13,8 +13,11 @@ ghost use mathlib.Core.Path.{_≡_};
 ghost use Prim.Native.Nat.{_+_, _*_, _/_, _≤_, _<_};
 ghost use lib.ListN.{length};
 ghost use lib.Dec.{ltb};
-ghost use Rattle.events.specs.Event.{noMore, noSets, noMessage, skipOk, pairOk, topicsOk, leaveOk, joinOk, orSeven, decodeOf, fieldsAt, readAt, placeAfter, readingOf, joiningOf};
+ghost use Rattle.events.specs.Event.{orSeven, decodeOf, fieldsAt, readAt, placeAfter, readingOf, joiningOf};
 ghost use Rattle.events.specs.Writing.{fieldsMk, fieldsOf, putHead, putFields, recordOf, writtenAt};
+
+mod judge; // judge.rt: what refusal 7 tests, kind by kind
+
 use network::Message;
 use network::Peer;
 
@@ -60,96 +63,6 @@ pub struct Fields {
     pub neighbours: u32,
 }
 
-// Pubs and neighbours are unused.
-fn no_more(f: Fields) -> bool
-    ensures { λ r. ⌜ r ≡ noMore f ⌝ }
-{
-    if f.pubs != 0 {
-        return false;
-    }
-    f.neighbours == 0
-}
-
-// All three words are unused.
-fn no_sets(f: Fields) -> bool
-    ensures { λ r. ⌜ r ≡ noSets f ⌝ }
-{
-    if f.subs != 0 {
-        return false;
-    }
-    no_more(f)
-}
-
-// The message and byte 3 are unused.
-fn no_message(f: Fields) -> bool
-    ensures { λ r. ⌜ r ≡ noMessage f ⌝ }
-{
-    if f.message != 0 {
-        return false;
-    }
-    f.zero == 0
-}
-
-fn skip_ok(f: Fields) -> bool
-    ensures { λ r. ⌜ r ≡ skipOk f ⌝ }
-{
-    if f.peer != 0 {
-        return false;
-    }
-    if no_message(f) {
-        return no_sets(f);
-    }
-    false
-}
-
-fn pair_ok(f: Fields) -> bool
-    ensures { λ r. ⌜ r ≡ pairOk f ⌝ }
-{
-    if 32 <= f.peer {
-        return false;
-    }
-    if 64 <= f.message {
-        return false;
-    }
-    if f.zero != 0 {
-        return false;
-    }
-    no_sets(f)
-}
-
-fn topics_ok(f: Fields) -> bool
-    ensures { λ r. ⌜ r ≡ topicsOk f ⌝ }
-{
-    if 32 <= f.peer {
-        return false;
-    }
-    if no_message(f) {
-        return no_more(f);
-    }
-    false
-}
-
-fn leave_ok(f: Fields) -> bool
-    ensures { λ r. ⌜ r ≡ leaveOk f ⌝ }
-{
-    if 32 <= f.peer {
-        return false;
-    }
-    if no_message(f) {
-        return no_sets(f);
-    }
-    false
-}
-
-fn join_ok(f: Fields) -> bool
-    ensures { λ r. ⌜ r ≡ joinOk f ⌝ }
-{
-    if 32 <= f.peer {
-        return false;
-    }
-    no_message(f)
-}
-
 // The event, or refusal 7.
 fn or_seven(ok: bool, e: Event) -> Read
     ensures { λ r. ⌜ r ≡ orSeven ok e ⌝ }
@@ -176,13 +89,22 @@ fn decode(f: Fields) -> Read
 {
     let code = f.code;
     match code {
-        0 => or_seven(skip_ok(f), Event::Skip),
-        1 => or_seven(pair_ok(f), Event::Produce(Peer(f.peer), Message(f.message))),
-        2 => or_seven(pair_ok(f), Event::Forward(Peer(f.peer), Message(f.message))),
-        3 => or_seven(topics_ok(f), Event::Subscribe(Peer(f.peer), f.subs)),
-        4 => or_seven(topics_ok(f), Event::Unsubscribe(Peer(f.peer), f.subs)),
-        5 => or_seven(leave_ok(f), Event::Leave(Peer(f.peer))),
-        6 => or_seven(join_ok(f), Event::Join(Peer(f.peer), sets_of(f))),
+        0 => or_seven(judge::skip_ok(f), Event::Skip),
+        1 => or_seven(
+            judge::pair_ok(f),
+            Event::Produce(Peer(f.peer), Message(f.message)),
+        ),
+        2 => or_seven(
+            judge::pair_ok(f),
+            Event::Forward(Peer(f.peer), Message(f.message)),
+        ),
+        3 => or_seven(judge::topics_ok(f), Event::Subscribe(Peer(f.peer), f.subs)),
+        4 => or_seven(
+            judge::topics_ok(f),
+            Event::Unsubscribe(Peer(f.peer), f.subs),
+        ),
+        5 => or_seven(judge::leave_ok(f), Event::Leave(Peer(f.peer))),
+        6 => or_seven(judge::join_ok(f), Event::Join(Peer(f.peer), sets_of(f))),
         7..=255 => Read::Refused(6),
     }
 }

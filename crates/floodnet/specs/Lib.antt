@@ -18,3 +18,12 @@ pub mod Records
 pub mod LeaveJoin
 pub mod Accident
 pub mod StepLaws
+pub mod CodeVisit
+pub mod CodeWhen
+pub mod CodeArrays
+pub mod CodeRows
+pub mod CodeWalks
+pub mod CodeForward
+pub mod CodeLinks
+pub mod CodeRefusals
+pub mod CodeTurns

@@ -1,9 +1,56 @@
-// Floodnet: what the seven events ask and do (document 01, "Events"), on arrays that the caller lends. The definitions are
-// in specs/: Produce, Forward, Topics, Links, and Step, which puts them together as 01's table.
+// Floodnet: what the seven events ask and do (document 01, "Events"), on arrays that the caller lends. `step` does one event;
+// its promise is one equation, that the network of the lent arrays becomes `after` (specs/Step.antt), and its answer is
+// `turnedOf`. Read specs/Step.antt, then the definitions it puts together: Refusals, Produce, Forward, Topics, Links. The
+// files specs/Code*.antt are laws that the proofs of functions use.
+ghost use mathlib.Core.Path.{_≡_};
+ghost use Prim.Native.Nat.{_≤_};
+ghost use Rattle.network.specs.Network.{mk, Rows};
+ghost use Rattle.events.specs.Fits.{EventFits};
+ghost use Rattle.floodnet.specs.Step.{after, turnedOf};
+ghost use Rattle.floodnet.specs.CodeForward.{table};
 
-// What an event answers: 0 or the refusal's number; the kind that the tally counts (1 a produce, 2 a forward), and its deliveries.
+use events::Event;
+
+mod arrays; // arrays.rt: loops over the words of peers
+mod rows; // rows.rt: loops over the rows of `known`
+mod messages; // messages.rt: what produce and forward do
+mod links; // links.rt: what subscribe, unsubscribe, leave and join do
+mod refusals; // refusals.rt: what the events ask
+mod turns; // turns.rt: an event of each kind, asked and done
+
+// What one event comes to: 0 or the number of the refusal; 1 for an accepted produce, 2 for an accepted forward, else 0; and
+// the deliveries of an accepted forward.
 pub struct Turned {
     pub number: u8,
     pub kind: u8,
     pub deliveries: u32,
+}
+
+// One event: asked, and done if nothing refuses it.
+pub fn step(
+    present: &mut u32,
+    pubs: &mut [u32; 32],
+    subs: &mut [u32; 32],
+    neighbours: &mut [u32; 32],
+    pending: &mut [u64; 32],
+    seen: &mut [u64; 32],
+    known: &mut [u32; 1024],
+    topics: &[u8; 64],
+    origins: &[u8; 64],
+    e: Event,
+) -> Turned
+    requires { ⌜ EventFits e × Rows (table (now topics) (now origins)) ⌝ }
+    ensures { λ r. ⌜ mk (now (present .exit)) (now (pubs .exit)) (now (subs .exit)) (now (neighbours .exit)) (now (pending .exit)) (now (seen .exit)) (now (known .exit)) ≡ after (mk (now (present .entry)) (now (pubs .entry)) (now (subs .entry)) (now (neighbours .entry)) (now (pending .entry)) (now (seen .entry)) (now (known .entry))) (table (now (topics .entry)) (now (origins .entry))) e ⌝ }
+    ensures { λ r. ⌜ r ≡ turnedOf (mk (now (present .entry)) (now (pubs .entry)) (now (subs .entry)) (now (neighbours .entry)) (now (pending .entry)) (now (seen .entry)) (now (known .entry))) (table (now (topics .entry)) (now (origins .entry))) e ⌝ }
+    ensures { λ r. ⌜ r .deliveries ≤ 32 ⌝ }
+{
+    match e {
+        Event::Skip => turns::done(0, 0),
+        Event::Produce(p, m) => turns::produce(*present, &*pubs, &mut *pending, &*seen, topics, origins, p, m),
+        Event::Forward(p, m) => turns::forward(*present, &mut *pending, &mut *seen, &*known, topics, p, m),
+        Event::Subscribe(p, t) => turns::subscribe(*present, &mut *subs, &*neighbours, &mut *known, p, t),
+        Event::Unsubscribe(p, t) => turns::unsubscribe(*present, &mut *subs, &*neighbours, &mut *known, p, t),
+        Event::Leave(p) => turns::leave(&mut *present, &mut *pubs, &mut *subs, &mut *neighbours, &mut *pending, &mut *seen, &mut *known, p),
+        Event::Join(p, j) => turns::join(&mut *present, &mut *pubs, &mut *subs, &mut *neighbours, &mut *pending, &mut *seen, &mut *known, p, j),
+    }
 }

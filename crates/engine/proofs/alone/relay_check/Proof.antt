@@ -8,7 +8,7 @@ read-requires : tie.Need-read-requires
 read-requires c κs = search needs
 
 returns : tie.Need-returns
-returns c = check-is _ (c .before .read .ensures)
+returns c = check-is _ (c .read .ensures)
 
 pub relay-check-spec : {M : Type 1} → statement M
 relay-check-spec = tie.close (tie.spec read-requires returns)

@@ -1,0 +1,82 @@
+-- `floodnet::arrays::mark` meets its contract. Assumes nothing.
+use borrow.Author.Needs.{needs}
+use mathlib.Core.Path.{_∙_}
+use Rattle.sets.specs.Set.{has}
+use Rattle.sets.specs.Members.{has-none}
+use Rattle.floodnet.specs.CodeVisit.{along-done}
+use Rattle.floodnet.specs.CodeWhen.{puts, Picking, picking-none, picks-with}
+use Rattle.floodnet.specs.CodeArrays.{marking}
+use Rattle.floodnet.proofs.arrays.mark.Statement.{statement}
+use Rattle.floodnet.proofs.arrays.mark.Tie as tie
+use Rattle.floodnet.proofs.arrays.mark.Reads as reads
+use Rattle.floodnet.proofs.arrays.mark.Lts as lts
+use Rattle.sets.proofs.lowest32.Reads as lowest32-reads
+use Rattle.sets.proofs.rest32.Reads as rest32-reads
+use Rattle.sets.proofs.with32.Reads as with32-reads
+
+abbrev Inv-loop : tie.InvT-loop
+Inv-loop neighbours₀ who i left₀ neighbours left = Picking who left has (puts i) neighbours₀ neighbours
+
+abbrev μ-loop : tie.MeasureT-loop
+μ-loop neighbours₀ who i left₀ neighbours left = left
+
+cast-i : tie.Need-cast-i Inv-loop μ-loop
+cast-i c = search needs
+
+loop-holds : tie.Need-loop-holds Inv-loop μ-loop
+loop-holds c = picking-none _ _ _ _ (search needs) has-none
+
+lowest32-requires : tie.Need-lowest32-requires Inv-loop μ-loop
+lowest32-requires c κs = search needs
+
+cast-q : tie.Need-cast-q Inv-loop μ-loop
+cast-q c = search needs
+
+mul-with32 : tie.Need-mul-with32 Inv-loop μ-loop
+mul-with32 c = search needs
+
+element-copy-out-with32 : tie.Need-element-copy-out-with32 Inv-loop μ-loop
+element-copy-out-with32 c = search needs
+
+with32-requires : tie.Need-with32-requires Inv-loop μ-loop
+with32-requires c κs = search needs
+
+mul-neighbours : tie.Need-mul-neighbours Inv-loop μ-loop
+mul-neighbours c = search needs
+
+element-write-neighbours : tie.Need-element-write-neighbours Inv-loop μ-loop
+element-write-neighbours c = search needs
+
+rest32-requires : tie.Need-rest32-requires Inv-loop μ-loop
+rest32-requires c κs = search needs
+
+loop-less : tie.Need-loop-less Inv-loop μ-loop
+loop-less c = search needs
+
+loop-again : tie.Need-loop-again Inv-loop μ-loop
+loop-again c =
+    marking _ (c .before .before .before .before .before .loop .inv) (search needs) (c .before .before .before .lowest32 .ensures .0) (c .rest32 .ensures .0)
+    (c .before .with32 .ensures)
+
+returns : tie.Need-returns Inv-loop μ-loop
+returns c = along-done (c .before .loop .inv) (c .loop-test .left) ∙ picks-with _ _ _
+
+pub mark-spec : {M : Type 1} → statement M
+mark-spec =
+    tie.close
+    (tie.spec
+    Inv-loop
+    μ-loop
+    cast-i
+    loop-holds
+    lowest32-requires
+    cast-q
+    mul-with32
+    element-copy-out-with32
+    with32-requires
+    mul-neighbours
+    element-write-neighbours
+    rest32-requires
+    loop-less
+    loop-again
+    returns)

@@ -1,0 +1,82 @@
+-- `floodnet::arrays::unmark` meets its contract. Assumes nothing.
+use borrow.Author.Needs.{needs}
+use mathlib.Core.Path.{_∙_}
+use Rattle.sets.specs.Set.{has, only}
+use Rattle.sets.specs.Members.{has-none}
+use Rattle.floodnet.specs.CodeVisit.{along-done}
+use Rattle.floodnet.specs.CodeWhen.{strikes, Picking, picking-none, picks-without}
+use Rattle.floodnet.specs.CodeArrays.{unmarking}
+use Rattle.floodnet.proofs.arrays.unmark.Statement.{statement}
+use Rattle.floodnet.proofs.arrays.unmark.Tie as tie
+use Rattle.floodnet.proofs.arrays.unmark.Reads as reads
+use Rattle.floodnet.proofs.arrays.unmark.Lts as lts
+use Rattle.sets.proofs.lowest32.Reads as lowest32-reads
+use Rattle.sets.proofs.rest32.Reads as rest32-reads
+use Rattle.sets.proofs.without32.Reads as without32-reads
+
+abbrev Inv-loop : tie.InvT-loop
+Inv-loop neighbours₀ who i left₀ neighbours left = Picking who left has (strikes (only i)) neighbours₀ neighbours
+
+abbrev μ-loop : tie.MeasureT-loop
+μ-loop neighbours₀ who i left₀ neighbours left = left
+
+cast-i : tie.Need-cast-i Inv-loop μ-loop
+cast-i c = search needs
+
+loop-holds : tie.Need-loop-holds Inv-loop μ-loop
+loop-holds c = picking-none _ _ _ _ (search needs) has-none
+
+lowest32-requires : tie.Need-lowest32-requires Inv-loop μ-loop
+lowest32-requires c κs = search needs
+
+cast-q : tie.Need-cast-q Inv-loop μ-loop
+cast-q c = search needs
+
+mul-without32 : tie.Need-mul-without32 Inv-loop μ-loop
+mul-without32 c = search needs
+
+element-copy-out-without32 : tie.Need-element-copy-out-without32 Inv-loop μ-loop
+element-copy-out-without32 c = search needs
+
+without32-requires : tie.Need-without32-requires Inv-loop μ-loop
+without32-requires c κs = search needs
+
+mul-neighbours : tie.Need-mul-neighbours Inv-loop μ-loop
+mul-neighbours c = search needs
+
+element-write-neighbours : tie.Need-element-write-neighbours Inv-loop μ-loop
+element-write-neighbours c = search needs
+
+rest32-requires : tie.Need-rest32-requires Inv-loop μ-loop
+rest32-requires c κs = search needs
+
+loop-less : tie.Need-loop-less Inv-loop μ-loop
+loop-less c = search needs
+
+loop-again : tie.Need-loop-again Inv-loop μ-loop
+loop-again c =
+    unmarking _ (c .before .before .before .before .before .loop .inv) (search needs) (c .before .before .before .lowest32 .ensures .0) (c .rest32 .ensures .0)
+    (c .before .without32 .ensures)
+
+returns : tie.Need-returns Inv-loop μ-loop
+returns c = along-done (c .before .loop .inv) (c .loop-test .left) ∙ picks-without _ _ _
+
+pub unmark-spec : {M : Type 1} → statement M
+unmark-spec =
+    tie.close
+    (tie.spec
+    Inv-loop
+    μ-loop
+    cast-i
+    loop-holds
+    lowest32-requires
+    cast-q
+    mul-without32
+    element-copy-out-without32
+    without32-requires
+    mul-neighbours
+    element-write-neighbours
+    rest32-requires
+    loop-less
+    loop-again
+    returns)

@@ -1,0 +1,25 @@
+-- `floodnet::links::join` meets its contract. Assumes nothing.
+use borrow.Author.Needs.{needs}
+use Rattle.floodnet.specs.CodeLinks.{joined-law}
+use Rattle.floodnet.proofs.links.join.Statement.{statement}
+use Rattle.floodnet.proofs.links.join.Tie as tie
+use Rattle.floodnet.proofs.links.join.Reads as reads
+use Rattle.floodnet.proofs.links.join.Lts as lts
+use Rattle.floodnet.proofs.links.clear.Reads as clear-reads
+use Rattle.floodnet.proofs.links.link_up.Reads as link-up-reads
+use Rattle.floodnet.proofs.links.place.Reads as place-reads
+
+clear-requires : tie.Need-clear-requires
+clear-requires c κs = search needs
+
+place-requires : tie.Need-place-requires
+place-requires c κs = search needs
+
+link-up-requires : tie.Need-link-up-requires
+link-up-requires c κs = search needs
+
+returns : tie.Need-returns
+returns c = joined-law _ _ _ _ _ _ _ _ _ _ _ _ _ _ _ _ _ (c .before .before .before .before .before .before .before .before .clear .ensures) (c .before .before .before .before .place .ensures) (c .link-up .ensures)
+
+pub join-spec : {M : Type 1} → statement M
+join-spec = tie.close (tie.spec clear-requires place-requires link-up-requires returns)

@@ -1,0 +1,32 @@
+-- `floodnet::links::leave` meets its contract. Assumes nothing.
+use borrow.Author.Needs.{needs}
+use Rattle.floodnet.specs.CodeLinks.{left-law}
+use Rattle.floodnet.proofs.links.leave.Statement.{statement}
+use Rattle.floodnet.proofs.links.leave.Tie as tie
+use Rattle.floodnet.proofs.links.leave.Reads as reads
+use Rattle.floodnet.proofs.links.leave.Lts as lts
+use Rattle.floodnet.proofs.links.clear.Reads as clear-reads
+use Rattle.floodnet.proofs.links.link_down.Reads as link-down-reads
+
+cast-who : tie.Need-cast-who
+cast-who c = search needs
+
+mul-who : tie.Need-mul-who
+mul-who c = search needs
+
+element-copy-out-who : tie.Need-element-copy-out-who
+element-copy-out-who c = search needs
+
+link-down-requires : tie.Need-link-down-requires
+link-down-requires c κs = search needs
+
+clear-requires : tie.Need-clear-requires
+clear-requires c κs = search needs
+
+returns : tie.Need-returns
+returns c = left-law _ _ _ _ _ _ _ _ _ _ _ (c .before .before .before .before .before .before .before .before .link-down .ensures) (c .clear .ensures)
+
+pub leave-spec : {M : Type 1} → statement M
+leave-spec =
+    tie.close
+    (tie.spec cast-who mul-who element-copy-out-who link-down-requires clear-requires returns)

@@ -1,0 +1,56 @@
+-- `floodnet::refusals::of_join` meets its contract. Assumes nothing.
+use borrow.Author.Needs.{needs}
+use mathlib.Core.Path.{refl}
+use Rattle.floodnet.specs.Refusals.{refusalJoin}
+use Rattle.floodnet.specs.CodeRefusals.{need-fails, need-holds, test-bars, test-frees, some-fails, none-holds}
+use Rattle.floodnet.proofs.refusals.of_join.Statement.{statement}
+use Rattle.floodnet.proofs.refusals.of_join.Tie as tie
+use Rattle.floodnet.proofs.refusals.of_join.Reads as reads
+use Rattle.floodnet.proofs.refusals.of_join.Lts as lts
+use Rattle.sets.proofs.has32.Reads as has32-reads
+use Rattle.sets.proofs.minus32.Reads as minus32-reads
+
+cast-has32 : tie.Need-cast-has32
+cast-has32 c = search needs
+
+has32-requires : tie.Need-has32-requires
+has32-requires c κs = search needs
+
+returns : tie.Need-returns
+unfolding refusalJoin
+returns c = need-fails _ _ _ (test-bars (c .before .has32 .ensures) (c .if1 .taken))
+
+cast-has32-2 : tie.Need-cast-has32-2
+cast-has32-2 c = search needs
+
+has32-requires-2 : tie.Need-has32-requires-2
+has32-requires-2 c κs = search needs
+
+returns-2 : tie.Need-returns-2
+unfolding refusalJoin
+returns-2 c = need-holds _ _ _ (test-frees (c .before .before .before .before .has32 .ensures) (c .before .before .before .if1 .left)) (need-fails _ _ _ (test-bars (c .before .has322 .ensures) (c .if2 .taken)))
+
+minus32-requires : tie.Need-minus32-requires
+minus32-requires c κs = search needs
+
+returns-3 : tie.Need-returns-3
+unfolding refusalJoin
+returns-3 c = need-holds _ _ _ (test-frees (c .before .before .before .before .before .before .has32 .ensures) (c .before .before .before .before .before .if1 .left)) (need-holds _ _ _ (test-frees (c .before .before .before .has322 .ensures) (c .before .before .if2 .left)) (need-fails _ _ _ (some-fails (c .before .minus32 .ensures) (c .if3 .taken))))
+
+returns-4 : tie.Need-returns-4
+unfolding refusalJoin
+returns-4 c = need-holds _ _ _ (test-frees (c .before .before .before .before .before .before .has32 .ensures) (c .before .before .before .before .before .if1 .left)) (need-holds _ _ _ (test-frees (c .before .before .before .has322 .ensures) (c .before .before .if2 .left)) (need-holds _ _ _ (none-holds (c .before .minus32 .ensures) (c .if3 .left)) (refl)))
+
+pub of-join-spec : {M : Type 1} → statement M
+of-join-spec =
+    tie.close
+    (tie.spec
+    cast-has32
+    has32-requires
+    returns
+    cast-has32-2
+    has32-requires-2
+    returns-2
+    minus32-requires
+    returns-3
+    returns-4)

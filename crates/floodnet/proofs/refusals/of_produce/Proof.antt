@@ -1,0 +1,93 @@
+-- `floodnet::refusals::of_produce` meets its contract. Assumes nothing.
+use borrow.Author.Needs.{needs}
+use mathlib.Core.Path.{refl}
+use mathlib.Core.List.{[]}
+use borrow.Author.Tests.{eq-eqb, ne-eqb}
+use Rattle.network.specs.Network.{mk}
+use Rattle.floodnet.specs.Produce.{isNew}
+use Rattle.floodnet.specs.Refusals.{refusalProduce}
+use Rattle.floodnet.specs.CodeRefusals.{need-fails, need-holds, test-fails, test-holds, some-fails, none-holds, holders-is}
+use Rattle.floodnet.proofs.refusals.of_produce.Statement.{statement}
+use Rattle.floodnet.proofs.refusals.of_produce.Tie as tie
+use Rattle.floodnet.proofs.refusals.of_produce.Reads as reads
+use Rattle.floodnet.proofs.refusals.of_produce.Lts as lts
+use Rattle.floodnet.proofs.arrays.holders.Reads as holders-reads
+use Rattle.sets.proofs.has32.Reads as has32-reads
+
+cast-has32 : tie.Need-cast-has32
+cast-has32 c = search needs
+
+has32-requires : tie.Need-has32-requires
+has32-requires c κs = search needs
+
+returns : tie.Need-returns
+unfolding refusalProduce isNew
+returns c = need-fails _ _ _ (test-fails (c .before .has32 .ensures) (c .if1 .taken))
+
+cast-if2 : tie.Need-cast-if2
+cast-if2 c = search needs
+
+element-copy-out-if2 : tie.Need-element-copy-out-if2
+element-copy-out-if2 c = search needs
+
+returns-2 : tie.Need-returns-2
+unfolding refusalProduce isNew
+returns-2 c = need-holds _ _ _ (test-holds (c .before .before .before .before .before .has32 .ensures) (c .before .before .before .before .if1 .left)) (need-fails _ _ _ (ne-eqb _ _ (c .if2 .taken)))
+
+cast-has32-2 : tie.Need-cast-has32-2
+cast-has32-2 c = search needs
+
+mul-has32 : tie.Need-mul-has32
+mul-has32 c = search needs
+
+element-copy-out-has32 : tie.Need-element-copy-out-has32
+element-copy-out-has32 c = search needs
+
+cast-has32-3 : tie.Need-cast-has32-3
+cast-has32-3 c = search needs
+
+element-copy-out-has32-2 : tie.Need-element-copy-out-has32-2
+element-copy-out-has32-2 c = search needs
+
+cast-has32-4 : tie.Need-cast-has32-4
+cast-has32-4 c = search needs
+
+has32-requires-2 : tie.Need-has32-requires-2
+has32-requires-2 c κs = search needs
+
+returns-3 : tie.Need-returns-3
+unfolding refusalProduce isNew
+returns-3 c = need-holds _ _ _ (test-holds (c .before .before .before .before .before .before .before .before .before .before .before .has32 .ensures) (c .before .before .before .before .before .before .before .before .before .before .if1 .left)) (need-holds _ _ _ (eq-eqb _ _ (c .before .before .before .before .before .before .if2 .left)) (need-fails _ _ _ (test-fails (c .before .has322 .ensures) (c .if3 .taken))))
+
+holders-requires : tie.Need-holders-requires
+holders-requires c κs = search needs
+
+returns-4 : tie.Need-returns-4
+unfolding refusalProduce isNew
+returns-4 c = need-holds _ _ _ (test-holds (c .before .before .before .before .before .before .before .before .before .before .before .before .before .has32 .ensures) (c .before .before .before .before .before .before .before .before .before .before .before .before .if1 .left)) (need-holds _ _ _ (eq-eqb _ _ (c .before .before .before .before .before .before .before .before .if2 .left)) (need-holds _ _ _ (test-holds (c .before .before .before .has322 .ensures) (c .before .before .if3 .left)) (need-fails _ _ _ (some-fails (holders-is (mk _ _ [] [] _ _ []) _ _ (c .before .holders .ensures)) (c .if4 .taken)))))
+
+returns-5 : tie.Need-returns-5
+unfolding refusalProduce isNew
+returns-5 c = need-holds _ _ _ (test-holds (c .before .before .before .before .before .before .before .before .before .before .before .before .before .has32 .ensures) (c .before .before .before .before .before .before .before .before .before .before .before .before .if1 .left)) (need-holds _ _ _ (eq-eqb _ _ (c .before .before .before .before .before .before .before .before .if2 .left)) (need-holds _ _ _ (test-holds (c .before .before .before .has322 .ensures) (c .before .before .if3 .left)) (need-holds _ _ _ (none-holds (holders-is (mk _ _ [] [] _ _ []) _ _ (c .before .holders .ensures)) (c .if4 .left)) (refl))))
+
+pub of-produce-spec : {M : Type 1} → statement M
+of-produce-spec =
+    tie.close
+    (tie.spec
+    cast-has32
+    has32-requires
+    returns
+    cast-if2
+    element-copy-out-if2
+    returns-2
+    cast-has32-2
+    mul-has32
+    element-copy-out-has32
+    cast-has32-3
+    element-copy-out-has32-2
+    cast-has32-4
+    has32-requires-2
+    returns-3
+    holders-requires
+    returns-4
+    returns-5)

@@ -1,0 +1,68 @@
+-- `floodnet::rows::drop_all` meets its contract. Assumes nothing.
+use borrow.Author.Needs.{needs}
+use mathlib.Core.Path.{_∙_}
+use Rattle.floodnet.specs.CodeVisit.{along-done}
+use Rattle.floodnet.specs.CodeWhen.{strikes, Picking, picking-none}
+use Rattle.floodnet.specs.CodeWalks.{rows, rows-none, rows-dropped, dropping-row}
+use Rattle.floodnet.proofs.rows.drop_all.Statement.{statement}
+use Rattle.floodnet.proofs.rows.drop_all.Tie as tie
+use Rattle.floodnet.proofs.rows.drop_all.Reads as reads
+use Rattle.floodnet.proofs.rows.drop_all.Lts as lts
+use Rattle.floodnet.proofs.rows.row_minus.Reads as row-minus-reads
+use Rattle.sets.proofs.lowest32.Reads as lowest32-reads
+use Rattle.sets.proofs.rest32.Reads as rest32-reads
+use Rattle.sets.proofs.with32.Reads as with32-reads
+
+abbrev Inv-loop : tie.InvT-loop
+Inv-loop known₀ who own left₀ known left = Picking who left rows (strikes own) known₀ known
+
+abbrev μ-loop : tie.MeasureT-loop
+μ-loop known₀ who own left₀ known left = left
+
+cast-with32 : tie.Need-cast-with32 Inv-loop μ-loop
+cast-with32 c = search needs
+
+with32-requires : tie.Need-with32-requires Inv-loop μ-loop
+with32-requires c κs = search needs
+
+loop-holds : tie.Need-loop-holds Inv-loop μ-loop
+loop-holds c = picking-none _ _ _ _ (search needs) rows-none
+
+lowest32-requires : tie.Need-lowest32-requires Inv-loop μ-loop
+lowest32-requires c κs = search needs
+
+cast-t10 : tie.Need-cast-t10 Inv-loop μ-loop
+cast-t10 c = search needs
+
+row-minus-requires : tie.Need-row-minus-requires Inv-loop μ-loop
+row-minus-requires c κs = search needs
+
+rest32-requires : tie.Need-rest32-requires Inv-loop μ-loop
+rest32-requires c κs = search needs
+
+loop-less : tie.Need-loop-less Inv-loop μ-loop
+loop-less c = search needs
+
+loop-again : tie.Need-loop-again Inv-loop μ-loop
+loop-again c =
+    dropping-row _ (c .before .before .before .before .before .loop .inv) (search needs) (c .before .before .before .lowest32 .ensures .0) (c .rest32 .ensures .0) (c .before .row-minus .ensures)
+
+returns : tie.Need-returns Inv-loop μ-loop
+returns c = along-done (c .before .loop .inv) (c .loop-test .left) ∙ rows-dropped _ _ _ _ (c .before .before .with32 .ensures)
+
+pub drop-all-spec : {M : Type 1} → statement M
+drop-all-spec =
+    tie.close
+    (tie.spec
+    Inv-loop
+    μ-loop
+    cast-with32
+    with32-requires
+    loop-holds
+    lowest32-requires
+    cast-t10
+    row-minus-requires
+    rest32-requires
+    loop-less
+    loop-again
+    returns)

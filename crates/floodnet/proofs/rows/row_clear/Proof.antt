@@ -1,0 +1,65 @@
+-- `floodnet::rows::row_clear` meets its contract. Assumes nothing.
+use borrow.Author.Needs.{needs}
+use mathlib.Core.Path.{_≡_}
+use Prim.Native.Nat.{_≤_, _-_}
+use native.Mathlib.Omega.{arith}
+use Rattle.lists.specs.Edit.{edit}
+use Rattle.floodnet.specs.CodeWhen.{blanks, picks}
+use Rattle.floodnet.specs.CodeRows.{front, row-none, row-clear-more, row-clear-all}
+use Rattle.floodnet.proofs.rows.row_clear.Statement.{statement}
+use Rattle.floodnet.proofs.rows.row_clear.Tie as tie
+use Rattle.floodnet.proofs.rows.row_clear.Reads as reads
+use Rattle.floodnet.proofs.rows.row_clear.Lts as lts
+
+abbrev Inv-loop : tie.InvT-loop
+Inv-loop known₀ r t₀ known t = (t ≤ 32) × (known ≡ edit (picks (front r t) blanks) known₀)
+
+abbrev μ-loop : tie.MeasureT-loop
+μ-loop known₀ r t₀ known t = 32 - t
+
+cast-r : tie.Need-cast-r Inv-loop μ-loop
+cast-r c = search needs
+
+loop-holds : tie.Need-loop-holds Inv-loop μ-loop
+loop-holds c = (search needs, row-none _ _ _)
+
+mul-known : tie.Need-mul-known Inv-loop μ-loop
+mul-known c = search needs
+
+add-known : tie.Need-add-known Inv-loop μ-loop
+add-known c = search needs
+
+mul-known-2 : tie.Need-mul-known-2 Inv-loop μ-loop
+mul-known-2 c = search needs
+
+element-write-known : tie.Need-element-write-known Inv-loop μ-loop
+element-write-known c = search needs
+
+add-t : tie.Need-add-t Inv-loop μ-loop
+add-t c = search needs
+
+loop-less : tie.Need-loop-less Inv-loop μ-loop
+loop-less c = search needs
+
+loop-again : tie.Need-loop-again Inv-loop μ-loop
+loop-again c = (search needs, row-clear-more _ _ _ (search needs) (c .before .loop .inv .1))
+
+returns : tie.Need-returns Inv-loop μ-loop
+returns c = row-clear-all _ _ _ (c .before .loop .inv .1) (omega arith)
+
+pub row-clear-spec : {M : Type 1} → statement M
+row-clear-spec =
+    tie.close
+    (tie.spec
+    Inv-loop
+    μ-loop
+    cast-r
+    loop-holds
+    mul-known
+    add-known
+    mul-known-2
+    element-write-known
+    add-t
+    loop-less
+    loop-again
+    returns)

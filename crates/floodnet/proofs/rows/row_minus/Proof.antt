@@ -1,0 +1,78 @@
+-- `floodnet::rows::row_minus` meets its contract. Assumes nothing.
+use borrow.Author.Needs.{needs}
+use mathlib.Core.Path.{_≡_}
+use Prim.Native.Nat.{_≤_, _-_}
+use native.Mathlib.Omega.{arith}
+use Rattle.lists.specs.Edit.{edit}
+use Rattle.floodnet.specs.CodeWhen.{strikes, picks}
+use Rattle.floodnet.specs.CodeRows.{front, row-none, row-minus-more, row-minus-all}
+use Rattle.floodnet.proofs.rows.row_minus.Statement.{statement}
+use Rattle.floodnet.proofs.rows.row_minus.Tie as tie
+use Rattle.floodnet.proofs.rows.row_minus.Reads as reads
+use Rattle.floodnet.proofs.rows.row_minus.Lts as lts
+use Rattle.sets.proofs.minus32.Reads as minus32-reads
+
+abbrev Inv-loop : tie.InvT-loop
+Inv-loop known₀ s r t₀ known t = (t ≤ 32) × (known ≡ edit (picks (front r t) (strikes s)) known₀)
+
+abbrev μ-loop : tie.MeasureT-loop
+μ-loop known₀ s r t₀ known t = 32 - t
+
+cast-r : tie.Need-cast-r Inv-loop μ-loop
+cast-r c = search needs
+
+loop-holds : tie.Need-loop-holds Inv-loop μ-loop
+loop-holds c = (search needs, row-none _ _ _)
+
+mul-k : tie.Need-mul-k Inv-loop μ-loop
+mul-k c = search needs
+
+add-k : tie.Need-add-k Inv-loop μ-loop
+add-k c = search needs
+
+mul-minus32 : tie.Need-mul-minus32 Inv-loop μ-loop
+mul-minus32 c = search needs
+
+element-copy-out-minus32 : tie.Need-element-copy-out-minus32 Inv-loop μ-loop
+element-copy-out-minus32 c = search needs
+
+minus32-requires : tie.Need-minus32-requires Inv-loop μ-loop
+minus32-requires c κs = search needs
+
+mul-known : tie.Need-mul-known Inv-loop μ-loop
+mul-known c = search needs
+
+element-write-known : tie.Need-element-write-known Inv-loop μ-loop
+element-write-known c = search needs
+
+add-t : tie.Need-add-t Inv-loop μ-loop
+add-t c = search needs
+
+loop-less : tie.Need-loop-less Inv-loop μ-loop
+loop-less c = search needs
+
+loop-again : tie.Need-loop-again Inv-loop μ-loop
+loop-again c = (search needs, row-minus-more _ _ _ _ (search needs) (c .before .before .before .loop .inv .1) (c .minus32 .ensures))
+
+returns : tie.Need-returns Inv-loop μ-loop
+returns c = row-minus-all _ _ _ _ (c .before .loop .inv .1) (omega arith)
+
+pub row-minus-spec : {M : Type 1} → statement M
+row-minus-spec =
+    tie.close
+    (tie.spec
+    Inv-loop
+    μ-loop
+    cast-r
+    loop-holds
+    mul-k
+    add-k
+    mul-minus32
+    element-copy-out-minus32
+    minus32-requires
+    mul-known
+    element-write-known
+    add-t
+    loop-less
+    loop-again
+    returns)

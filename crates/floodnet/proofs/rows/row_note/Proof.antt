@@ -1,0 +1,92 @@
+-- `floodnet::rows::row_note` meets its contract. Assumes nothing.
+use borrow.Author.Needs.{needs}
+use mathlib.Core.Path.{_∙_}
+use Rattle.sets.specs.Set.{only}
+use Rattle.floodnet.specs.CodeVisit.{along-done}
+use Rattle.floodnet.specs.CodeWhen.{puts, Picking, picking-none}
+use Rattle.floodnet.specs.CodeArrays.{inside, inside-no-topic, inside-noted, noting}
+use Rattle.floodnet.proofs.rows.row_note.Statement.{statement}
+use Rattle.floodnet.proofs.rows.row_note.Tie as tie
+use Rattle.floodnet.proofs.rows.row_note.Reads as reads
+use Rattle.floodnet.proofs.rows.row_note.Lts as lts
+use Rattle.sets.proofs.lowest32.Reads as lowest32-reads
+use Rattle.sets.proofs.rest32.Reads as rest32-reads
+use Rattle.sets.proofs.with32.Reads as with32-reads
+
+abbrev Inv-loop : tie.InvT-loop
+Inv-loop known₀ topics r i left₀ known left = Picking topics left (inside (only r)) (puts i) known₀ known
+
+abbrev μ-loop : tie.MeasureT-loop
+μ-loop known₀ topics r i left₀ known left = left
+
+cast-r : tie.Need-cast-r Inv-loop μ-loop
+cast-r c = search needs
+
+cast-i : tie.Need-cast-i Inv-loop μ-loop
+cast-i c = search needs
+
+loop-holds : tie.Need-loop-holds Inv-loop μ-loop
+loop-holds c = picking-none _ _ _ _ (search needs) (inside-no-topic _)
+
+mul-k : tie.Need-mul-k Inv-loop μ-loop
+mul-k c = search needs
+
+lowest32-requires : tie.Need-lowest32-requires Inv-loop μ-loop
+lowest32-requires c κs = search needs
+
+cast-k : tie.Need-cast-k Inv-loop μ-loop
+cast-k c = search needs
+
+add-k : tie.Need-add-k Inv-loop μ-loop
+add-k c = search needs
+
+mul-with32 : tie.Need-mul-with32 Inv-loop μ-loop
+mul-with32 c = search needs
+
+element-copy-out-with32 : tie.Need-element-copy-out-with32 Inv-loop μ-loop
+element-copy-out-with32 c = search needs
+
+with32-requires : tie.Need-with32-requires Inv-loop μ-loop
+with32-requires c κs = search needs
+
+mul-known : tie.Need-mul-known Inv-loop μ-loop
+mul-known c = search needs
+
+element-write-known : tie.Need-element-write-known Inv-loop μ-loop
+element-write-known c = search needs
+
+rest32-requires : tie.Need-rest32-requires Inv-loop μ-loop
+rest32-requires c κs = search needs
+
+loop-less : tie.Need-loop-less Inv-loop μ-loop
+loop-less c = search needs
+
+loop-again : tie.Need-loop-again Inv-loop μ-loop
+loop-again c =
+    noting _ _ (c .before .before .before .before .before .loop .inv) (search needs) (c .before .before .before .lowest32 .ensures .0) (c .rest32 .ensures .0) (c .before .with32 .ensures)
+
+returns : tie.Need-returns Inv-loop μ-loop
+returns c = along-done (c .before .loop .inv) (c .loop-test .left) ∙ inside-noted _ _ _ _
+
+pub row-note-spec : {M : Type 1} → statement M
+row-note-spec =
+    tie.close
+    (tie.spec
+    Inv-loop
+    μ-loop
+    cast-r
+    cast-i
+    loop-holds
+    mul-k
+    lowest32-requires
+    cast-k
+    add-k
+    mul-with32
+    element-copy-out-with32
+    with32-requires
+    mul-known
+    element-write-known
+    rest32-requires
+    loop-less
+    loop-again
+    returns)

@@ -1,0 +1,92 @@
+-- `floodnet::rows::row_strike` meets its contract. Assumes nothing.
+use borrow.Author.Needs.{needs}
+use mathlib.Core.Path.{_∙_}
+use Rattle.sets.specs.Set.{only}
+use Rattle.floodnet.specs.CodeVisit.{along-done}
+use Rattle.floodnet.specs.CodeWhen.{strikes, Picking, picking-none}
+use Rattle.floodnet.specs.CodeArrays.{inside, inside-no-topic, inside-struck, striking}
+use Rattle.floodnet.proofs.rows.row_strike.Statement.{statement}
+use Rattle.floodnet.proofs.rows.row_strike.Tie as tie
+use Rattle.floodnet.proofs.rows.row_strike.Reads as reads
+use Rattle.floodnet.proofs.rows.row_strike.Lts as lts
+use Rattle.sets.proofs.lowest32.Reads as lowest32-reads
+use Rattle.sets.proofs.rest32.Reads as rest32-reads
+use Rattle.sets.proofs.without32.Reads as without32-reads
+
+abbrev Inv-loop : tie.InvT-loop
+Inv-loop known₀ topics r i left₀ known left = Picking topics left (inside (only r)) (strikes (only i)) known₀ known
+
+abbrev μ-loop : tie.MeasureT-loop
+μ-loop known₀ topics r i left₀ known left = left
+
+cast-r : tie.Need-cast-r Inv-loop μ-loop
+cast-r c = search needs
+
+cast-i : tie.Need-cast-i Inv-loop μ-loop
+cast-i c = search needs
+
+loop-holds : tie.Need-loop-holds Inv-loop μ-loop
+loop-holds c = picking-none _ _ _ _ (search needs) (inside-no-topic _)
+
+mul-k : tie.Need-mul-k Inv-loop μ-loop
+mul-k c = search needs
+
+lowest32-requires : tie.Need-lowest32-requires Inv-loop μ-loop
+lowest32-requires c κs = search needs
+
+cast-k : tie.Need-cast-k Inv-loop μ-loop
+cast-k c = search needs
+
+add-k : tie.Need-add-k Inv-loop μ-loop
+add-k c = search needs
+
+mul-without32 : tie.Need-mul-without32 Inv-loop μ-loop
+mul-without32 c = search needs
+
+element-copy-out-without32 : tie.Need-element-copy-out-without32 Inv-loop μ-loop
+element-copy-out-without32 c = search needs
+
+without32-requires : tie.Need-without32-requires Inv-loop μ-loop
+without32-requires c κs = search needs
+
+mul-known : tie.Need-mul-known Inv-loop μ-loop
+mul-known c = search needs
+
+element-write-known : tie.Need-element-write-known Inv-loop μ-loop
+element-write-known c = search needs
+
+rest32-requires : tie.Need-rest32-requires Inv-loop μ-loop
+rest32-requires c κs = search needs
+
+loop-less : tie.Need-loop-less Inv-loop μ-loop
+loop-less c = search needs
+
+loop-again : tie.Need-loop-again Inv-loop μ-loop
+loop-again c =
+    striking _ _ (c .before .before .before .before .before .loop .inv) (search needs) (c .before .before .before .lowest32 .ensures .0) (c .rest32 .ensures .0) (c .before .without32 .ensures)
+
+returns : tie.Need-returns Inv-loop μ-loop
+returns c = along-done (c .before .loop .inv) (c .loop-test .left) ∙ inside-struck _ _ _ _
+
+pub row-strike-spec : {M : Type 1} → statement M
+row-strike-spec =
+    tie.close
+    (tie.spec
+    Inv-loop
+    μ-loop
+    cast-r
+    cast-i
+    loop-holds
+    mul-k
+    lowest32-requires
+    cast-k
+    add-k
+    mul-without32
+    element-copy-out-without32
+    without32-requires
+    mul-known
+    element-write-known
+    rest32-requires
+    loop-less
+    loop-again
+    returns)

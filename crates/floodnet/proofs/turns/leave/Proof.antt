@@ -1,0 +1,38 @@
+-- `floodnet::turns::leave` meets its contract. Assumes nothing.
+use borrow.Author.Needs.{needs}
+use mathlib.Core.Path.{refl}
+use Rattle.floodnet.specs.Refusals.{refusalLeave}
+use Rattle.floodnet.specs.CodeTurns.{took-refused, took-done}
+use Rattle.floodnet.proofs.turns.leave.Statement.{statement}
+use Rattle.floodnet.proofs.turns.leave.Tie as tie
+use Rattle.floodnet.proofs.turns.leave.Reads as reads
+use Rattle.floodnet.proofs.turns.leave.Lts as lts
+use Rattle.floodnet.proofs.links.leave.Reads as leave-reads
+use Rattle.floodnet.proofs.refusals.of_leave.Reads as of-leave-reads
+use Rattle.floodnet.proofs.turns.done.Reads as done-reads
+use Rattle.floodnet.proofs.turns.refused.Reads as refused-reads
+
+of-leave-requires : tie.Need-of-leave-requires
+of-leave-requires c κs = search needs
+
+refused-requires : tie.Need-refused-requires
+refused-requires c κs = search needs
+
+returns : tie.Need-returns
+unfolding refusalLeave
+returns c = took-refused _ (c .before .before .of-leave .ensures) (c .before .if1 .taken) (c .refused .ensures)
+
+leave-requires : tie.Need-leave-requires
+leave-requires c κs = search needs
+
+done-requires : tie.Need-done-requires
+done-requires c κs = search needs
+
+returns-2 : tie.Need-returns-2
+unfolding refusalLeave
+returns-2 c = took-done _ (c .before .before .before .before .before .before .before .before .before .before .of-leave .ensures) (c .before .before .before .before .before .before .before .before .before .if1 .left) (c .before .leave .ensures) (c .done .ensures) refl (search needs)
+
+pub leave-spec : {M : Type 1} → statement M
+leave-spec =
+    tie.close
+    (tie.spec of-leave-requires refused-requires returns leave-requires done-requires returns-2)

@@ -1,0 +1,45 @@
+-- `floodnet::turns::unsubscribe` meets its contract. Assumes nothing.
+use borrow.Author.Needs.{needs}
+use mathlib.Core.Path.{refl}
+use Rattle.floodnet.specs.Refusals.{refusalTopics}
+use Rattle.floodnet.specs.CodeLinks.{unsubscribed-lift}
+use Rattle.floodnet.specs.CodeTurns.{took-refused, took-done}
+use Rattle.floodnet.proofs.turns.unsubscribe.Statement.{statement}
+use Rattle.floodnet.proofs.turns.unsubscribe.Tie as tie
+use Rattle.floodnet.proofs.turns.unsubscribe.Reads as reads
+use Rattle.floodnet.proofs.turns.unsubscribe.Lts as lts
+use Rattle.floodnet.proofs.links.unsubscribe.Reads as unsubscribe-reads
+use Rattle.floodnet.proofs.refusals.of_topics.Reads as of-topics-reads
+use Rattle.floodnet.proofs.turns.done.Reads as done-reads
+use Rattle.floodnet.proofs.turns.refused.Reads as refused-reads
+
+of-topics-requires : tie.Need-of-topics-requires
+of-topics-requires c κs = search needs
+
+refused-requires : tie.Need-refused-requires
+refused-requires c κs = search needs
+
+returns : tie.Need-returns
+unfolding refusalTopics
+returns c = took-refused _ (c .before .before .of-topics .ensures) (c .before .if1 .taken) (c .refused .ensures)
+
+unsubscribe-requires : tie.Need-unsubscribe-requires
+unsubscribe-requires c κs = search needs
+
+done-requires : tie.Need-done-requires
+done-requires c κs = search needs
+
+returns-2 : tie.Need-returns-2
+unfolding refusalTopics
+returns-2 c = took-done _ (c .before .before .before .before .before .of-topics .ensures) (c .before .before .before .before .if1 .left) (unsubscribed-lift _ _ _ _ _ _ _ _ _ _ _ (c .before .unsubscribe .ensures)) (c .done .ensures) refl (search needs)
+
+pub unsubscribe-spec : {M : Type 1} → statement M
+unsubscribe-spec =
+    tie.close
+    (tie.spec
+    of-topics-requires
+    refused-requires
+    returns
+    unsubscribe-requires
+    done-requires
+    returns-2)

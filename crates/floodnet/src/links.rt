@@ -1,0 +1,134 @@
+// What subscribe, unsubscribe, leave and join do, on the arrays that they touch (specs/Topics.antt, specs/Links.antt). A
+// contract is one equation between networks that have these arrays and nothing else; specs/CodeLinks.antt lifts it to the
+// whole network.
+ghost use mathlib.Core.Path.{_≡_};
+ghost use mathlib.Core.List.{[]};
+ghost use Prim.Native.Nat.{_<_};
+ghost use Rattle.network.specs.Network.{mk};
+ghost use Rattle.floodnet.specs.Topics.{subscribedTo, unsubscribedFrom};
+ghost use Rattle.floodnet.specs.Links.{linkUp, linkDown, cleared, placed, left, joined};
+ghost use Rattle.floodnet.specs.CodeLinks.{ofLinks, ofTopics};
+
+use super::arrays;
+use super::rows;
+use network::Peer;
+
+// "Topics join subs; neighbours' records follow."
+pub(crate) fn subscribe(subs: &mut [u32; 32], neighbours: &[u32; 32], known: &mut [u32; 1024], p: Peer, topics: u32)
+    requires { ⌜ p .0 < 32 ⌝ }
+    ensures { λ z. ⌜ ofLinks (now (subs .exit)) (now (neighbours .entry)) (now (known .exit)) ≡ subscribedTo (ofLinks (now (subs .entry)) (now (neighbours .entry)) (now (known .entry))) p topics ⌝ }
+{
+    let i = p.0 as usize;
+    subs[i] = sets::union32(subs[i], topics);
+    rows::note_all(&mut *known, neighbours[i], topics, p);
+}
+
+// "Topics leave subs; neighbours' records follow."
+pub(crate) fn unsubscribe(subs: &mut [u32; 32], neighbours: &[u32; 32], known: &mut [u32; 1024], p: Peer, topics: u32)
+    requires { ⌜ p .0 < 32 ⌝ }
+    ensures { λ z. ⌜ ofLinks (now (subs .exit)) (now (neighbours .entry)) (now (known .exit)) ≡ unsubscribedFrom (ofLinks (now (subs .entry)) (now (neighbours .entry)) (now (known .entry))) p topics ⌝ }
+{
+    let i = p.0 as usize;
+    subs[i] = sets::minus32(subs[i], topics);
+    rows::strike_all(&mut *known, neighbours[i], topics, p);
+}
+
+// Both sides record: p and each of `who` list each other, and know each other for their topics.
+pub(crate) fn link_up(neighbours: &mut [u32; 32], subs: &[u32; 32], known: &mut [u32; 1024], p: Peer, who: u32)
+    requires { ⌜ p .0 < 32 ⌝ }
+    ensures { λ z. ⌜ ofLinks (now (subs .entry)) (now (neighbours .exit)) (now (known .exit)) ≡ linkUp (ofLinks (now (subs .entry)) (now (neighbours .entry)) (now (known .entry))) p who ⌝ }
+{
+    let i = p.0 as usize;
+    neighbours[i] = sets::union32(neighbours[i], who);
+    arrays::mark(&mut *neighbours, who, p);
+    rows::note_all(&mut *known, who, subs[i], p);
+    rows::learn(&mut *known, p, &*subs, who);
+}
+
+// Both sides forget: p and each of `who` neither list nor know each other.
+pub(crate) fn link_down(neighbours: &mut [u32; 32], known: &mut [u32; 1024], p: Peer, who: u32)
+    requires { ⌜ p .0 < 32 ⌝ }
+    ensures { λ z. ⌜ ofLinks [] (now (neighbours .exit)) (now (known .exit)) ≡ linkDown (ofLinks [] (now (neighbours .entry)) (now (known .entry))) p who ⌝ }
+{
+    let i = p.0 as usize;
+    neighbours[i] = sets::minus32(neighbours[i], who);
+    arrays::unmark(&mut *neighbours, who, p);
+    rows::drop_all(&mut *known, who, p);
+    rows::row_minus(&mut *known, p, who);
+}
+
+// "Record becomes zero."
+pub(crate) fn clear(
+    present: &mut u32,
+    pubs: &mut [u32; 32],
+    subs: &mut [u32; 32],
+    neighbours: &mut [u32; 32],
+    pending: &mut [u64; 32],
+    seen: &mut [u64; 32],
+    known: &mut [u32; 1024],
+    p: Peer,
+)
+    requires { ⌜ p .0 < 32 ⌝ }
+    ensures { λ z. ⌜ mk (now (present .exit)) (now (pubs .exit)) (now (subs .exit)) (now (neighbours .exit)) (now (pending .exit)) (now (seen .exit)) (now (known .exit)) ≡ cleared (mk (now (present .entry)) (now (pubs .entry)) (now (subs .entry)) (now (neighbours .entry)) (now (pending .entry)) (now (seen .entry)) (now (known .entry))) p ⌝ }
+{
+    let i = p.0 as usize;
+    *present = sets::without32(*present, p.0 as u32);
+    pubs[i] = 0;
+    subs[i] = 0;
+    neighbours[i] = 0;
+    pending[i] = 0;
+    seen[i] = 0;
+    rows::row_clear(&mut *known, p);
+}
+
+// p is present, with these topics.
+pub(crate) fn place(present: &mut u32, pubs: &mut [u32; 32], subs: &mut [u32; 32], p: Peer, s: u32, b: u32)
+    requires { ⌜ p .0 < 32 ⌝ }
+    ensures { λ z. ⌜ ofTopics (now (present .exit)) (now (pubs .exit)) (now (subs .exit)) ≡ placed (ofTopics (now (present .entry)) (now (pubs .entry)) (now (subs .entry))) p s b ⌝ }
+{
+    let i = p.0 as usize;
+    *present = sets::with32(*present, p.0 as u32);
+    pubs[i] = b;
+    subs[i] = s;
+}
+
+// "Record becomes zero; neighbours drop the peer and its subscriptions."
+pub(crate) fn leave(
+    present: &mut u32,
+    pubs: &mut [u32; 32],
+    subs: &mut [u32; 32],
+    neighbours: &mut [u32; 32],
+    pending: &mut [u64; 32],
+    seen: &mut [u64; 32],
+    known: &mut [u32; 1024],
+    p: Peer,
+)
+    requires { ⌜ p .0 < 32 ⌝ }
+    ensures { λ z. ⌜ mk (now (present .exit)) (now (pubs .exit)) (now (subs .exit)) (now (neighbours .exit)) (now (pending .exit)) (now (seen .exit)) (now (known .exit)) ≡ left (mk (now (present .entry)) (now (pubs .entry)) (now (subs .entry)) (now (neighbours .entry)) (now (pending .entry)) (now (seen .entry)) (now (known .entry))) p ⌝ }
+{
+    let who = neighbours[p.0 as usize];
+    link_down(&mut *neighbours, &mut *known, p, who);
+    clear(&mut *present, &mut *pubs, &mut *subs, &mut *neighbours, &mut *pending, &mut *seen, &mut *known, p);
+}
+
+// "Record made with nothing pending or seen; both sides record link and subscriptions."
+pub(crate) fn join(
+    present: &mut u32,
+    pubs: &mut [u32; 32],
+    subs: &mut [u32; 32],
+    neighbours: &mut [u32; 32],
+    pending: &mut [u64; 32],
+    seen: &mut [u64; 32],
+    known: &mut [u32; 1024],
+    p: Peer,
+    s: u32,
+    b: u32,
+    who: u32,
+)
+    requires { ⌜ p .0 < 32 ⌝ }
+    ensures { λ z. ⌜ mk (now (present .exit)) (now (pubs .exit)) (now (subs .exit)) (now (neighbours .exit)) (now (pending .exit)) (now (seen .exit)) (now (known .exit)) ≡ joined (mk (now (present .entry)) (now (pubs .entry)) (now (subs .entry)) (now (neighbours .entry)) (now (pending .entry)) (now (seen .entry)) (now (known .entry))) p s b who ⌝ }
+{
+    clear(&mut *present, &mut *pubs, &mut *subs, &mut *neighbours, &mut *pending, &mut *seen, &mut *known, p);
+    place(&mut *present, &mut *pubs, &mut *subs, p, s, b);
+    link_up(&mut *neighbours, &*subs, &mut *known, p, who);
+}

@@ -1,0 +1,48 @@
+// What produce and forward do, on the arrays that they touch (specs/Produce.antt, specs/Forward.antt). A contract
+// is one equation between networks that have these arrays and nothing else; specs/CodeForward.antt lifts it to the whole
+// network.
+ghost use mathlib.Core.Path.{_≡_};
+ghost use mathlib.Core.List.{[]};
+ghost use Prim.Native.Nat.{_<_};
+ghost use lib.ListN.{getD};
+ghost use Rattle.floodnet.specs.Produce.{produced};
+ghost use Rattle.floodnet.specs.Forward.{receivers, forwarded};
+ghost use Rattle.floodnet.specs.CodeForward.{table, ofMessages};
+
+use super::arrays;
+use network::Message;
+use network::Peer;
+
+// m becomes pending at p.
+pub(crate) fn produce(pending: &mut [u64; 32], p: Peer, m: Message)
+    requires { ⌜ (p .0 < 32) × (m .0 < 64) ⌝ }
+    ensures { λ z. ⌜ ofMessages (now (pending .exit)) [] [] ≡ produced (ofMessages (now (pending .entry)) [] []) p m ⌝ }
+{
+    let i = p.0 as usize;
+    pending[i] = sets::with64(pending[i], m.0 as u32);
+}
+
+// Forward of m by p: m moves from pending to seen at p, and becomes pending at the receivers, whose set is answered.
+pub(crate) fn forward(
+    pending: &mut [u64; 32],
+    seen: &mut [u64; 32],
+    known: &[u32; 1024],
+    topics: &[u8; 64],
+    p: Peer,
+    m: Message,
+) -> u32
+    requires { ⌜ (p .0 < 32) × (m .0 < 64) × (getD (now topics) (m .0) 0 < 32) ⌝ }
+    ensures { λ r. ⌜ r ≡ receivers (ofMessages (now (pending .entry)) (now (seen .entry)) (now (known .entry))) (table (now (topics .entry)) []) p m ⌝ }
+    ensures { λ r. ⌜ ofMessages (now (pending .exit)) (now (seen .exit)) (now (known .entry)) ≡ forwarded (ofMessages (now (pending .entry)) (now (seen .entry)) (now (known .entry))) (table (now (topics .entry)) []) p m ⌝ }
+{
+    let i = p.0 as usize;
+    let b = m.0 as u32;
+    pending[i] = sets::without64(pending[i], b);
+    seen[i] = sets::with64(seen[i], b);
+    let k = i * 32 + topics[m.0 as usize] as usize;
+    let near = known[k];
+    let held = arrays::holders(&*pending, &*seen, near, m);
+    let r = sets::minus32(near, held);
+    arrays::give(&mut *pending, r, m);
+    r
+}

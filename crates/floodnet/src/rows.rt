@@ -1,0 +1,121 @@
+// Loops over rows of `known`, the lent array of 32 rows of 32 words: the word of topic t at peer q stands at q * 32 + t.
+// The first four change one row, the others the rows of the members of a set. The loops' turns are laws of
+// specs/CodeWhen.antt, specs/CodeArrays.antt and specs/CodeRows.antt.
+ghost use mathlib.Core.Path.{_≡_};
+ghost use mathlib.Core.Bool.{not};
+ghost use Prim.Native.Nat.{_/_, _<_};
+ghost use lib.Dec.{eqb};
+ghost use Rattle.sets.specs.Set.{has, only};
+ghost use Rattle.lists.specs.Edit.{edit};
+ghost use Rattle.floodnet.specs.Topics.{withoutIf, noted, struck};
+ghost use Rattle.floodnet.specs.Links.{minusIf, keepIf};
+ghost use Rattle.floodnet.specs.CodeWalks.{learnt};
+
+use network::Peer;
+
+// `row` knows `who` for each of these topics.
+pub(crate) fn row_note(known: &mut [u32; 1024], row: Peer, topics: u32, who: Peer)
+    requires { ⌜ (row .0 < 32) × (who .0 < 32) ⌝ }
+    ensures { λ z. ⌜ now (known .exit) ≡ noted (only (row .0)) topics who (now (known .entry)) ⌝ }
+{
+    let r = row.0 as usize;
+    let i = who.0 as u32;
+    let mut left = topics;
+    while left != 0 {
+        let k = r * 32 + sets::lowest32(left) as usize;
+        known[k] = sets::with32(known[k], i);
+        left = sets::rest32(left);
+    }
+}
+
+// `row` knows `who` for none of these topics.
+pub(crate) fn row_strike(known: &mut [u32; 1024], row: Peer, topics: u32, who: Peer)
+    requires { ⌜ (row .0 < 32) × (who .0 < 32) ⌝ }
+    ensures { λ z. ⌜ now (known .exit) ≡ struck (only (row .0)) topics who (now (known .entry)) ⌝ }
+{
+    let r = row.0 as usize;
+    let i = who.0 as u32;
+    let mut left = topics;
+    while left != 0 {
+        let k = r * 32 + sets::lowest32(left) as usize;
+        known[k] = sets::without32(known[k], i);
+        left = sets::rest32(left);
+    }
+}
+
+// `row` knows none of s for any topic.
+pub(crate) fn row_minus(known: &mut [u32; 1024], row: Peer, s: u32)
+    requires { ⌜ row .0 < 32 ⌝ }
+    ensures { λ z. ⌜ now (known .exit) ≡ edit (λ i w. minusIf (eqb (i / 32) (row .0)) s w) (now (known .entry)) ⌝ }
+{
+    let r = row.0 as usize;
+    for t in 0..32 {
+        let k = r * 32 + t;
+        known[k] = sets::minus32(known[k], s);
+    }
+}
+
+// `row` knows nobody.
+pub(crate) fn row_clear(known: &mut [u32; 1024], row: Peer)
+    requires { ⌜ row .0 < 32 ⌝ }
+    ensures { λ z. ⌜ now (known .exit) ≡ edit (λ i w. keepIf (not (eqb (i / 32) (row .0))) w) (now (known .entry)) ⌝ }
+{
+    let r = row.0 as usize;
+    for t in 0..32 {
+        known[r * 32 + t] = 0;
+    }
+}
+
+// Each of `who` knows p for each of these topics.
+pub(crate) fn note_all(known: &mut [u32; 1024], who: u32, topics: u32, p: Peer)
+    requires { ⌜ p .0 < 32 ⌝ }
+    ensures { λ z. ⌜ now (known .exit) ≡ noted who topics p (now (known .entry)) ⌝ }
+{
+    let mut left = who;
+    while left != 0 {
+        let q = Peer(sets::lowest32(left) as u8);
+        row_note(&mut *known, q, topics, p);
+        left = sets::rest32(left);
+    }
+}
+
+// None of `who` knows p for any of these topics.
+pub(crate) fn strike_all(known: &mut [u32; 1024], who: u32, topics: u32, p: Peer)
+    requires { ⌜ p .0 < 32 ⌝ }
+    ensures { λ z. ⌜ now (known .exit) ≡ struck who topics p (now (known .entry)) ⌝ }
+{
+    let mut left = who;
+    while left != 0 {
+        let q = Peer(sets::lowest32(left) as u8);
+        row_strike(&mut *known, q, topics, p);
+        left = sets::rest32(left);
+    }
+}
+
+// None of `who` knows p for any topic.
+pub(crate) fn drop_all(known: &mut [u32; 1024], who: u32, p: Peer)
+    requires { ⌜ p .0 < 32 ⌝ }
+    ensures { λ z. ⌜ now (known .exit) ≡ edit (λ i w. withoutIf (has who (i / 32)) (p .0) w) (now (known .entry)) ⌝ }
+{
+    let own = sets::with32(0, p.0 as u32);
+    let mut left = who;
+    while left != 0 {
+        let q = Peer(sets::lowest32(left) as u8);
+        row_minus(&mut *known, q, own);
+        left = sets::rest32(left);
+    }
+}
+
+// p knows each of `who` for each of its topics.
+pub(crate) fn learn(known: &mut [u32; 1024], p: Peer, subs: &[u32; 32], who: u32)
+    requires { ⌜ p .0 < 32 ⌝ }
+    ensures { λ z. ⌜ now (known .exit) ≡ edit (learnt (p .0) (now (subs .entry)) who) (now (known .entry)) ⌝ }
+{
+    let mut left = who;
+    while left != 0 {
+        let q = sets::lowest32(left);
+        let topics = subs[q as usize];
+        row_note(&mut *known, p, topics, Peer(q as u8));
+        left = sets::rest32(left);
+    }
+}

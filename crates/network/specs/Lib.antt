@@ -10,6 +10,7 @@ pub mod Zeros
 pub mod Layout
 pub mod Opening
 pub mod Storing
+pub mod Writing
 pub mod Rows
 pub mod Listing
 pub mod SoundLaws

@@ -6,6 +6,7 @@ pub mod Tests
 pub mod Joining
 pub mod Backing
 pub mod State
+pub mod SoundIff
 pub mod Zeros
 pub mod Layout
 pub mod Opening

@@ -1,6 +1,6 @@
 -- Equations of the operations on sets; each is one of `&&` and `||` at every number. Assumes nothing.
 use mathlib.Core.Path.{_≡_}
-use mathlib.Core.Bool.{not, and-true, and-false, or-false, and-self, or-self, and-comm, or-comm, and-assoc, or-assoc, and-or-distrib-right, and-not-self}
+use mathlib.Core.Bool.{not, and-false, or-false, and-self, or-self, and-comm, or-comm, and-assoc, or-assoc, and-or-distrib-right}
 use Prim.Native.Nat.{ℕ}
 use Rattle.sets.specs.Set.{has, union, meet, minus}
 use Rattle.sets.specs.Members.{ext, members}

@@ -3,7 +3,7 @@
 -- Assumes nothing.
 use mathlib.Core.Path.{_≡_, refl, sym, ap, _∙_}
 use mathlib.Core.Logic.{_⊎_, inl, inr}
-use mathlib.Core.Bool.{Bool, true, false, not, _&&_, _||_, true≢false, false≢true}
+use mathlib.Core.Bool.{Bool, true, false, not, _&&_, _||_, true≢false, false≢true, and-false}
 use Prim.Native.Nat.{ℕ, suc, _<_}
 use native.Mathlib.Omega.{arith}
 use native.Mathlib.Decide.{ℕ-discrete}
@@ -122,7 +122,11 @@ ne-eqb {a} {b} f = not-false λ e. f (eqb-true a b e)
 
 -- Where the numbers are equal, what is asked of one may be asked of the other.
 pub and-eqb : (f : ℕ → Bool) (i j : ℕ) → f j && eqb i j ≡ f i && eqb i j
-and-eqb f i j = bool-ext (λ e. let p = and-yes (f j) (eqb i j) e in and-both (ap f (eqb-true i j (p .1)) ∙ p .0) (p .1)) (λ e. let p = and-yes (f i) (eqb i j) e in and-both (ap f (sym (eqb-true i j (p .1))) ∙ p .0) (p .1))
+and-eqb f i j = first (either (eqb i j))
+  where
+    first : (eqb i j ≡ true) ⊎ (eqb i j ≡ false) → f j && eqb i j ≡ f i && eqb i j
+    first (inl e) = rw (eqb-true i j e)
+    first (inr e) = rw (e, and-false (f j), and-false (f i))
 
 -- Below n + 1: below n, or n.
 pub below-suc : (i n : ℕ) → i < suc n → (i < n) ⊎ (i ≡ n)

@@ -98,7 +98,9 @@ has-only (suc i) (suc j) = has-rest (2 ^ suc i) j ∙ ap (λ (x : ℕ). has x j)
 -- ---- a set is its members
 
 odd-eq : (a b : ℕ) → eqb (a % 2) 1 ≡ eqb (b % 2) 1 → a % 2 ≡ b % 2
-odd-eq a b = digits2 (λ (p q : ℕ). eqb p 1 ≡ eqb q 1 → p ≡ q) (λ e. refl) (λ e. absurd (false≢true e)) (λ e. absurd (true≢false e)) (λ e. refl) (a % 2) (b % 2) (mod-lt a (zero-lt-suc 1)) (mod-lt b (zero-lt-suc 1))
+odd-eq a b =
+    digits2 (λ (p q : ℕ). eqb p 1 ≡ eqb q 1 → p ≡ q) (λ e. refl) (λ e. absurd (false≢true e)) (λ e. absurd (true≢false e)) (λ e. refl)
+    (a % 2) (b % 2) (omega arith) (omega arith)
 
 -- Half a word has one bit less.
 pub half-lt : (k a : ℕ) → a < 2 ^ suc k → a / 2 < 2 ^ k

@@ -57,7 +57,8 @@ sum-swap (suc n) m f =
 -- ---- one place changed
 
 -- One place changed, by what a and b tell.
-pub sum-change : (n : ℕ) (f g : ℕ → ℕ) (i a b : ℕ) → i < n → ((j : ℕ) → (j ≡ i → ⊥) → f j ≡ g j) → f i + a ≡ g i + b → sum n f + a ≡ sum n g + b
+pub sum-change : (n : ℕ) (f g : ℕ → ℕ) (i a b : ℕ) → i < n → ((j : ℕ) → (j ≡ i → ⊥) → f j ≡ g j)
+    → f i + a ≡ g i + b → sum n f + a ≡ sum n g + b
 unfolding sum
 sum-change zero f g i a b h same change = absurd (omega arith)
 sum-change (suc n) f g i a b h same change = first (below-suc i n h) (λ h′. sum-change n f g i a b h′ same change)

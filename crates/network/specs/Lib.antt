@@ -6,10 +6,12 @@ pub mod Tests
 pub mod Joining
 pub mod Backing
 pub mod State
+pub mod SoundIff
 pub mod Zeros
 pub mod Layout
 pub mod Opening
 pub mod Storing
+pub mod Writing
 pub mod Rows
 pub mod Listing
 pub mod SoundLaws

@@ -8,7 +8,7 @@ mod store;
 
 ghost use mathlib.Core.Path.{_≡_};
 ghost use lib.ListN.{length};
-ghost use Rattle.network.specs.State.{blankNet, openOf, bytesOf};
+ghost use Rattle.network.specs.State.{blankNet, openOf, bytesOf, writeOf, writtenOf};
 ghost use Rattle.network.specs.Rows.{blankTable, listOf};
 
 // "A peer number, a topic number and a message number are separate sorts": none stands where another is meant.
@@ -106,6 +106,22 @@ pub fn put(n: Network, state: &mut [u8])
         store::row(&mut *state, &n.known, p);
         p += 1;
     }
+}
+
+// Writes the network's bytes, if it is sound. Refused by 1, then by 5 with the lowest unsound record; the buffer stays as it was.
+pub fn write(n: Network, state: &mut [u8]) -> Wrote
+    ensures { λ r. ⌜ (r ≡ writeOf n (now (state .entry))) × (now (state .exit) ≡ writtenOf n (now (state .entry))) ⌝ }
+{
+    if state.len() != 5120 {
+        return Wrote { number: 1, place: 0 };
+    }
+    let heads = store::heads(n.present);
+    let p = rules::lowest_fault(&heads, n.present, &n.pubs, &n.subs, &n.neighbours, &n.pending, &n.seen, &n.known);
+    if p < 32 {
+        return Wrote { number: 5, place: p };
+    }
+    put(n, state);
+    Wrote { number: 0, place: 0 }
 }
 
 // The table that the rows say. Refused by 2, then by 4 with the lowest bad row, with a table of zeros.

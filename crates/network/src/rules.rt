@@ -194,15 +194,15 @@ fn fault(
 }
 
 // The lowest record that breaks a rule; 32 where none does.
-pub(crate) fn lowest_fault(
-    heads: &[u32; 32],
+pub(crate) fn lowest_fault<'a>(
+    heads: &'a [u32; 32],
     present: u32,
-    pubs: &[u32; 32],
-    subs: &[u32; 32],
-    neighbours: &[u32; 32],
-    pending: &[u64; 32],
-    seen: &[u64; 32],
-    known: &[u32; 1024],
+    pubs: &'a [u32; 32],
+    subs: &'a [u32; 32],
+    neighbours: &'a [u32; 32],
+    pending: &'a [u64; 32],
+    seen: &'a [u64; 32],
+    known: &'a [u32; 1024],
 ) -> usize
     ensures { λ r. ⌜ r ≡ lowestBy (now (heads .entry)) (mk present (now (pubs .entry)) (now (subs .entry)) (now (neighbours .entry)) (now (pending .entry)) (now (seen .entry)) (now (known .entry))) ⌝ }
 {

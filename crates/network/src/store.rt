@@ -1,8 +1,9 @@
 // The bytes of one record (specs/Storing.antt).
 ghost use mathlib.Core.Path.{_≡_};
-ghost use Prim.Native.Nat.{_<_};
+ghost use Prim.Native.Nat.{ℕ, _<_};
 ghost use lib.ListN.{length};
 ghost use Rattle.sets.specs.Set.{has, digit};
+ghost use Rattle.lists.specs.Tab.{tab};
 ghost use Rattle.network.specs.Storing.{putHead, putRow};
 
 // The first word of p's record: 1 where p is present.
@@ -14,6 +15,19 @@ pub(crate) fn head(present: u32, p: u32) -> u32
         return 1;
     }
     0
+}
+
+// The first words of all records.
+pub(crate) fn heads(present: u32) -> [u32; 32]
+    ensures { λ r. ⌜ r ≡ tab 32 (λ (p : ℕ). digit (has present p)) ⌝ }
+{
+    let mut r = [0u32; 32];
+    let mut p: u32 = 0;
+    while p < 32 {
+        r[p as usize] = head(present, p);
+        p += 1;
+    }
+    r
 }
 
 // The words of record p up to its known subscribers.

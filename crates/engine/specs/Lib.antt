@@ -9,3 +9,4 @@ pub mod RunBefore
 pub mod Alone
 pub mod StartLaws
 pub mod AloneLaws
+pub mod TurnLaws

@@ -1,6 +1,7 @@
 // The engine: the entry points that a host calls (document 01, "Numbers returned").
 mod alone; // alone.rt: reading, writing and the single forward
 mod counts; // counts.rt: the update of the tally
+mod running; // running.rt: a run over a list of events
 mod start; // start.rt: the refusals 1 to 5
 
 use network::Network;
@@ -43,4 +44,10 @@ pub struct Begun {
     pub place: usize,
     pub network: Network,
     pub table: Table,
+}
+
+// How a run over events ended: its answer, and the network then.
+pub struct Ran {
+    pub answer: Answer,
+    pub network: Network,
 }

@@ -10,3 +10,4 @@ pub mod Alone
 pub mod StartLaws
 pub mod AloneLaws
 pub mod TurnLaws
+pub mod Looping

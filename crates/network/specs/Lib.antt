@@ -8,6 +8,7 @@ pub mod Backing
 pub mod State
 pub mod SoundIff
 pub mod Zeros
+pub mod OpenedSound
 pub mod Layout
 pub mod Opening
 pub mod Storing

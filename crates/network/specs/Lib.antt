@@ -9,6 +9,7 @@ pub mod State
 pub mod SoundIff
 pub mod Zeros
 pub mod OpenedSound
+pub mod Trips
 pub mod Layout
 pub mod Opening
 pub mod Storing

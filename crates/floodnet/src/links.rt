@@ -8,13 +8,18 @@ ghost use Rattle.network.specs.Network.{mk};
 ghost use Rattle.floodnet.specs.Topics.{subscribedTo, unsubscribedFrom};
 ghost use Rattle.floodnet.specs.Links.{linkUp, linkDown, cleared, placed, left, joined};
 ghost use Rattle.floodnet.specs.CodeLinks.{ofLinks, ofTopics};
-
 use super::arrays;
 use super::rows;
 use network::Peer;
 
 // "Topics join subs; neighbours' records follow."
-pub(crate) fn subscribe(subs: &mut [u32; 32], neighbours: &[u32; 32], known: &mut [u32; 1024], p: Peer, topics: u32)
+pub(crate) fn subscribe(
+    subs: &mut [u32; 32],
+    neighbours: &[u32; 32],
+    known: &mut [u32; 1024],
+    p: Peer,
+    topics: u32,
+)
     requires { ⌜ p .0 < 32 ⌝ }
     ensures { λ z. ⌜ ofLinks (now (subs .exit)) (now (neighbours .entry)) (now (known .exit)) ≡ subscribedTo (ofLinks (now (subs .entry)) (now (neighbours .entry)) (now (known .entry))) p topics ⌝ }
 {
@@ -24,7 +29,13 @@ pub(crate) fn subscribe(subs: &mut [u32; 32], neighbours: &[u32; 32], known: &mu
 }
 
 // "Topics leave subs; neighbours' records follow."
-pub(crate) fn unsubscribe(subs: &mut [u32; 32], neighbours: &[u32; 32], known: &mut [u32; 1024], p: Peer, topics: u32)
+pub(crate) fn unsubscribe(
+    subs: &mut [u32; 32],
+    neighbours: &[u32; 32],
+    known: &mut [u32; 1024],
+    p: Peer,
+    topics: u32,
+)
     requires { ⌜ p .0 < 32 ⌝ }
     ensures { λ z. ⌜ ofLinks (now (subs .exit)) (now (neighbours .entry)) (now (known .exit)) ≡ unsubscribedFrom (ofLinks (now (subs .entry)) (now (neighbours .entry)) (now (known .entry))) p topics ⌝ }
 {
@@ -34,7 +45,13 @@ pub(crate) fn unsubscribe(subs: &mut [u32; 32], neighbours: &[u32; 32], known: &
 }
 
 // Both sides record: p and each of `who` list each other, and know each other for their topics.
-pub(crate) fn link_up(neighbours: &mut [u32; 32], subs: &[u32; 32], known: &mut [u32; 1024], p: Peer, who: u32)
+pub(crate) fn link_up(
+    neighbours: &mut [u32; 32],
+    subs: &[u32; 32],
+    known: &mut [u32; 1024],
+    p: Peer,
+    who: u32,
+)
     requires { ⌜ p .0 < 32 ⌝ }
     ensures { λ z. ⌜ ofLinks (now (subs .entry)) (now (neighbours .exit)) (now (known .exit)) ≡ linkUp (ofLinks (now (subs .entry)) (now (neighbours .entry)) (now (known .entry))) p who ⌝ }
 {
@@ -82,7 +99,14 @@ pub(crate) fn clear(
 }
 
 // p is present, with these topics.
-pub(crate) fn place(present: &mut u32, pubs: &mut [u32; 32], subs: &mut [u32; 32], p: Peer, s: u32, b: u32)
+pub(crate) fn place(
+    present: &mut u32,
+    pubs: &mut [u32; 32],
+    subs: &mut [u32; 32],
+    p: Peer,
+    s: u32,
+    b: u32,
+)
     requires { ⌜ p .0 < 32 ⌝ }
     ensures { λ z. ⌜ ofTopics (now (present .exit)) (now (pubs .exit)) (now (subs .exit)) ≡ placed (ofTopics (now (present .entry)) (now (pubs .entry)) (now (subs .entry))) p s b ⌝ }
 {
@@ -108,7 +132,16 @@ pub(crate) fn leave(
 {
     let who = neighbours[p.0 as usize];
     link_down(&mut *neighbours, &mut *known, p, who);
-    clear(&mut *present, &mut *pubs, &mut *subs, &mut *neighbours, &mut *pending, &mut *seen, &mut *known, p);
+    clear(
+        &mut *present,
+        &mut *pubs,
+        &mut *subs,
+        &mut *neighbours,
+        &mut *pending,
+        &mut *seen,
+        &mut *known,
+        p,
+    );
 }
 
 // "Record made with nothing pending or seen; both sides record link and subscriptions."
@@ -128,7 +161,16 @@ pub(crate) fn join(
     requires { ⌜ p .0 < 32 ⌝ }
     ensures { λ z. ⌜ mk (now (present .exit)) (now (pubs .exit)) (now (subs .exit)) (now (neighbours .exit)) (now (pending .exit)) (now (seen .exit)) (now (known .exit)) ≡ joined (mk (now (present .entry)) (now (pubs .entry)) (now (subs .entry)) (now (neighbours .entry)) (now (pending .entry)) (now (seen .entry)) (now (known .entry))) p s b who ⌝ }
 {
-    clear(&mut *present, &mut *pubs, &mut *subs, &mut *neighbours, &mut *pending, &mut *seen, &mut *known, p);
+    clear(
+        &mut *present,
+        &mut *pubs,
+        &mut *subs,
+        &mut *neighbours,
+        &mut *pending,
+        &mut *seen,
+        &mut *known,
+        p,
+    );
     place(&mut *present, &mut *pubs, &mut *subs, p, s, b);
     link_up(&mut *neighbours, &*subs, &mut *known, p, who);
 }

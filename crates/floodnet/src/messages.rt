@@ -8,7 +8,6 @@ ghost use lib.ListN.{getD};
 ghost use Rattle.floodnet.specs.Produce.{produced};
 ghost use Rattle.floodnet.specs.Forward.{receivers, forwarded};
 ghost use Rattle.floodnet.specs.CodeForward.{table, ofMessages};
-
 use super::arrays;
 use network::Message;
 use network::Peer;

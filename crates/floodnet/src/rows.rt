@@ -10,7 +10,6 @@ ghost use Rattle.lists.specs.Edit.{edit};
 ghost use Rattle.floodnet.specs.Topics.{withoutIf, noted, struck};
 ghost use Rattle.floodnet.specs.Links.{minusIf, keepIf};
 ghost use Rattle.floodnet.specs.CodeWalks.{learnt};
-
 use network::Peer;
 
 // `row` knows `who` for each of these topics.

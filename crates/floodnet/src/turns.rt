@@ -13,11 +13,10 @@ ghost use Rattle.floodnet.specs.Refusals.{refusalProduce, refusalForward
 ghost use Rattle.floodnet.specs.Step.{turned};
 ghost use Rattle.floodnet.specs.CodeForward.{table};
 ghost use Rattle.floodnet.specs.CodeTurns.{Took};
-
+use super::Turned;
 use super::links;
 use super::messages;
 use super::refusals;
-use super::Turned;
 use events::Joining;
 use network::Message;
 use network::Peer;
@@ -142,7 +141,16 @@ pub(crate) fn leave(
     if k != 0 {
         return refused(k);
     }
-    links::leave(&mut *present, &mut *pubs, &mut *subs, &mut *neighbours, &mut *pending, &mut *seen, &mut *known, p);
+    links::leave(
+        &mut *present,
+        &mut *pubs,
+        &mut *subs,
+        &mut *neighbours,
+        &mut *pending,
+        &mut *seen,
+        &mut *known,
+        p,
+    );
     done(0, 0)
 }
 

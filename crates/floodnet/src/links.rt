@@ -25,7 +25,7 @@ pub(crate) fn subscribe(
 {
     let i = p.0 as usize;
     subs[i] = sets::union32(subs[i], topics);
-    rows::note_all(&mut *known, neighbours[i], topics, p);
+    rows::note_all(known, neighbours[i], topics, p);
 }
 
 // "Topics leave subs; neighbours' records follow."
@@ -41,7 +41,7 @@ pub(crate) fn unsubscribe(
 {
     let i = p.0 as usize;
     subs[i] = sets::minus32(subs[i], topics);
-    rows::strike_all(&mut *known, neighbours[i], topics, p);
+    rows::strike_all(known, neighbours[i], topics, p);
 }
 
 // Both sides record: p and each of `who` list each other, and know each other for their topics.
@@ -57,9 +57,9 @@ pub(crate) fn link_up(
 {
     let i = p.0 as usize;
     neighbours[i] = sets::union32(neighbours[i], who);
-    arrays::mark(&mut *neighbours, who, p);
-    rows::note_all(&mut *known, who, subs[i], p);
-    rows::learn(&mut *known, p, &*subs, who);
+    arrays::mark(neighbours, who, p);
+    rows::note_all(known, who, subs[i], p);
+    rows::learn(known, p, subs, who);
 }
 
 // Both sides forget: p and each of `who` neither list nor know each other.
@@ -69,9 +69,9 @@ pub(crate) fn link_down(neighbours: &mut [u32; 32], known: &mut [u32; 1024], p: 
 {
     let i = p.0 as usize;
     neighbours[i] = sets::minus32(neighbours[i], who);
-    arrays::unmark(&mut *neighbours, who, p);
-    rows::drop_all(&mut *known, who, p);
-    rows::row_minus(&mut *known, p, who);
+    arrays::unmark(neighbours, who, p);
+    rows::drop_all(known, who, p);
+    rows::row_minus(known, p, who);
 }
 
 // "Record becomes zero."
@@ -95,7 +95,7 @@ pub(crate) fn clear(
     neighbours[i] = 0;
     pending[i] = 0;
     seen[i] = 0;
-    rows::row_clear(&mut *known, p);
+    rows::row_clear(known, p);
 }
 
 // p is present, with these topics.
@@ -131,17 +131,8 @@ pub(crate) fn leave(
     ensures { λ z. ⌜ mk (now (present .exit)) (now (pubs .exit)) (now (subs .exit)) (now (neighbours .exit)) (now (pending .exit)) (now (seen .exit)) (now (known .exit)) ≡ left (mk (now (present .entry)) (now (pubs .entry)) (now (subs .entry)) (now (neighbours .entry)) (now (pending .entry)) (now (seen .entry)) (now (known .entry))) p ⌝ }
 {
     let who = neighbours[p.0 as usize];
-    link_down(&mut *neighbours, &mut *known, p, who);
-    clear(
-        &mut *present,
-        &mut *pubs,
-        &mut *subs,
-        &mut *neighbours,
-        &mut *pending,
-        &mut *seen,
-        &mut *known,
-        p,
-    );
+    link_down(neighbours, known, p, who);
+    clear(present, pubs, subs, neighbours, pending, seen, known, p);
 }
 
 // "Record made with nothing pending or seen; both sides record link and subscriptions."
@@ -161,16 +152,7 @@ pub(crate) fn join(
     requires { ⌜ p .0 < 32 ⌝ }
     ensures { λ z. ⌜ mk (now (present .exit)) (now (pubs .exit)) (now (subs .exit)) (now (neighbours .exit)) (now (pending .exit)) (now (seen .exit)) (now (known .exit)) ≡ joined (mk (now (present .entry)) (now (pubs .entry)) (now (subs .entry)) (now (neighbours .entry)) (now (pending .entry)) (now (seen .entry)) (now (known .entry))) p s b who ⌝ }
 {
-    clear(
-        &mut *present,
-        &mut *pubs,
-        &mut *subs,
-        &mut *neighbours,
-        &mut *pending,
-        &mut *seen,
-        &mut *known,
-        p,
-    );
-    place(&mut *present, &mut *pubs, &mut *subs, p, s, b);
-    link_up(&mut *neighbours, &*subs, &mut *known, p, who);
+    clear(present, pubs, subs, neighbours, pending, seen, known, p);
+    place(present, pubs, subs, p, s, b);
+    link_up(neighbours, subs, known, p, who);
 }

@@ -40,8 +40,8 @@ pub(crate) fn forward(
     seen[i] = sets::with64(seen[i], b);
     let k = i * 32 + topics[m.0 as usize] as usize;
     let near = known[k];
-    let held = arrays::holders(&*pending, &*seen, near, m);
+    let held = arrays::holders(pending, seen, near, m);
     let r = sets::minus32(near, held);
-    arrays::give(&mut *pending, r, m);
+    arrays::give(pending, r, m);
     r
 }

@@ -1,7 +1,7 @@
 -- Laws of the drain's answer: quiet by words, the number of pending pairs, and any fuel that is enough. Assumes nothing.
 use mathlib.Core.Path.{_≡_, refl, sym, ap, _∙_}
 use mathlib.Core.Logic.{_↔_}
-use mathlib.Core.Bool.{Bool, true, false}
+use mathlib.Core.Bool.{true, false}
 use Prim.Native.Nat.{ℕ, _≤_, _<_}
 use native.Mathlib.Omega.{arith}
 use native.Mathlib.Decide.{decLt}
@@ -9,7 +9,7 @@ use lib.Dec.{eqb}
 use lib.ListN.{length}
 use borrow.Author.Tests.{eqb-true, eq-eqb}
 use Rattle.sets.specs.Set.{has, count}
-use Rattle.sets.specs.Any.{all, all-yes, all-why}
+use Rattle.sets.specs.Any.{all-yes, all-why}
 use Rattle.sets.specs.Bools.{bool-ext, not-false}
 use Rattle.sets.specs.Members.{has-none}
 use Rattle.sets.specs.Lowest.{none-empty}
@@ -20,8 +20,6 @@ use Rattle.flooding.specs.Page.{Floods}
 use Rattle.flooding.specs.Loop.{due-length}
 use Rattle.flooding.proofs.Floods.{floods}
 use Rattle.flooding.proofs.Drain.{due-none, due-some, drain-fuel}
-use Rattle.network.specs.declared.Peer.{Peer}
-use Rattle.network.specs.declared.Message.{Message}
 use Rattle.network.specs.declared.Network.{Network}
 use Rattle.network.specs.declared.Table.{Table}
 use Rattle.network.specs.Network.{peer, message, pendingOf, pending, Shaped, Rows}
@@ -32,7 +30,7 @@ use Rattle.floodnet.specs.ViewLaws.{network-machine}
 use Rattle.drain.specs.Drain.{drainOf, quietOf}
 use Rattle.drain.specs.Reach.{Quiet}
 use Rattle.drain.specs.ReachLaws.{still, quiet}
-use Rattle.drain.specs.Pairs.{waitingOf}
+use Rattle.drain.specs.Pairs.{listOf, waitingOf, todo-list}
 
 -- Every word is empty exactly if nothing is pending.
 pub quiet-words : {n : Network} → Shaped n → (quietOf n ≡ true) ↔ Quiet n
@@ -50,7 +48,11 @@ quiet-words {n} s = (there, λ q. all-yes 32 _ λ p l. eq-eqb _ 0 (none-empty (p
 pub quiet-view : {n : Network} (b : Table) → Shaped n → (quietOf n ≡ true) ↔ flooding.Quiet (view b n)
 quiet-view {n} b s = (λ e. still b n (quiet-words s .0 e), λ q. quiet-words s .1 (quiet b n q))
 
--- As many pairs are pending as a round has to forward.
+-- A round has to forward the pairs of the words of pending messages, and as many as are pending.
+pub due-list : (b : Table) (n : Network) → due 32 64 (view b n) ≡ listOf (n .pending) 32
+unfolding view
+due-list b n = todo-list (view b n) (n .pending) (λ p m. refl) 32
+
 pub waiting-due : (b : Table) (n : Network) → waitingOf (n .pending) ≡ length (due 32 64 (view b n))
 unfolding waitingOf count view pendingPairs
 waiting-due b n = sym (due-length 32 64 (view b n))

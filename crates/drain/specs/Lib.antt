@@ -4,3 +4,5 @@ pub mod ReachLaws
 pub mod Pairs
 pub mod Turns
 pub mod DrainLaws
+pub mod Lent
+pub mod LentLaws

@@ -15,25 +15,35 @@ use Rattle.sets.specs.Members.{has-none, has-without, has-without-other}
 use Rattle.sets.specs.Bounds.{minus-lt}
 use Rattle.sets.specs.Lowest.{lowest-has, lowest-least, lowest-lt}
 use Rattle.flooding.specs.Network.{Net}
-use Rattle.flooding.specs.Counts.{pendingPairs}
-use Rattle.flooding.specs.Machine.{Pair, pair, run, row}
+use Rattle.flooding.specs.Machine.{Pair, pair, run, row, todo}
 
 -- the pairs of p and the members of w below k, rising
 unfoldable pub pairsOf : ℕ → ℕ → ℕ → List Pair
 pairsOf p w zero = []
 pairsOf p w (suc k) = pairsOf p w k ++ cond (has w k) (pair p k ∷ []) []
 
+-- the pairs of the peers below p and the members of their words of l, rising: what a round that began with these words forwards
+unfoldable pub listOf : List ℕ → ℕ → List Pair
+listOf l zero = []
+listOf l (suc p) = listOf l p ++ pairsOf p (getD l p 0) 64
+
 -- how many pairs are pending: the members of 32 words of messages
 unfoldable pub waitingOf : List ℕ → ℕ
 waitingOf l = sum 32 (λ (p : ℕ). count 64 (has (getD l p 0)))
 
--- ---- a row of a round's list
+-- ---- a round's list
 
--- It has the pairs of p's word of pending messages.
+-- A row of it has the pairs of p's word of pending messages.
 pub row-pairs : (s : Net) (p w k : ℕ) → ((m : ℕ) → s .pending p m ≡ has w m) → row s p k ≡ pairsOf p w k
 unfolding row pairsOf
 row-pairs s p w zero h = refl
 row-pairs s p w (suc k) h = ap₂ (λ (l : List Pair) (b : Bool). l ++ cond b (pair p k ∷ []) []) (row-pairs s p w k h) (h k)
+
+-- All rows: the pairs of all words.
+pub todo-list : (s : Net) (l : List ℕ) → ((p m : ℕ) → s .pending p m ≡ has (getD l p 0) m) → (p : ℕ) → todo 64 s p ≡ listOf l p
+unfolding todo listOf
+todo-list s l h zero = refl
+todo-list s l h (suc p) = ap₂ _++_ (todo-list s l h p) (row-pairs s p (getD l p 0) 64 (h p))
 
 -- Without members there is none.
 pub pairs-none : (p w k : ℕ) → ((m : ℕ) → m < k → has w m ≡ false) → pairsOf p w k ≡ []
@@ -96,11 +106,11 @@ module _ {S : Type 0} (fwd : S → ℕ → ℕ → S) (start : S) (p todo left :
 
   -- after it: nothing is left, or the budget is spent
   pub walk-done : {now : S} {rest made : ℕ} → Walk now rest made → (rest ≡ 0) ⊎ (made ≡ left)
-      → (now ≡ run fwd start (take left (pairsOf p todo 64))) × (made ≡ length (take left (pairsOf p todo 64)))
+      → (made ≡ length (take left (pairsOf p todo 64))) × (now ≡ run fwd start (take left (pairsOf p todo 64)))
   unfolding run
   walk-done {now} {rest} {made} v o =
       let e : take (left - made) (pairsOf p rest 64) ≡ [] = empty o in
-      (sym (ap (λ (x : List Pair). run fwd now x) e) ∙ v .state, omega (arith, ap length e, v .count))
+      (omega (arith, ap length e, v .count), sym (ap (λ (x : List Pair). run fwd now x) e) ∙ v .state)
     where
       empty : (rest ≡ 0) ⊎ (made ≡ left) → take (left - made) (pairsOf p rest 64) ≡ []
       empty (inl d) = rw (d, pairs-none p 0 64 (λ m l. has-none m)) (take-nil (left - made))

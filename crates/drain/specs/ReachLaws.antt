@@ -2,9 +2,9 @@
 -- Assumes nothing.
 use mathlib.Core.Path.{_≡_, refl, sym, ap, _∙_}
 use mathlib.Core.Logic.{_⊎_, inl, inr, _↔_}
-use mathlib.Core.Bool.{Bool, true, false, _&&_}
+use mathlib.Core.Bool.{Bool, true, false}
 use mathlib.Core.List.{List, [], _∷_}
-use Prim.Native.Nat.{ℕ, zero, suc, _+_, _≤_, _<_}
+use Prim.Native.Nat.{ℕ, suc, _+_, _≤_, _<_}
 use native.Mathlib.Omega.{arith}
 use lib.ListN.{length}
 use Rattle.sets.specs.Bools.{and-both, and-yes}
@@ -194,9 +194,10 @@ module _ {b : Table} {n : Network} (s : Sound n) (rows : Rows b) where
       → (after b n l ≡ drainOf b budget n .end) × (length l ≡ drainOf b budget n .forwards)
   any-order budget h l a q =
       let x = drains budget in
-      let t : flooding.Quiet (view b (run (fwd b) n (x .path))) = rw (x .ends) at (drain-done budget h .quiet) in
-      (after-run b n l ∙ page .same-end (numbers l) (x .path) (accepts b n l a) (x .accepted) (settled l a q) t ∙ sym (x .ends),
-      sym (numbers-length l) ∙ page .same-count (numbers l) (x .path) (accepts b n l a) (x .accepted) (settled l a q) t ∙ sym (x .made))
+      let t : flooding.Quiet (view b (run (fwd b) n (x .path))) = rw (x .ends) at (drain-done budget h .quiet) in (
+        after-run b n l ∙ page .same-end (numbers l) (x .path) (accepts b n l a) (x .accepted) (settled l a q) t ∙ sym (x .ends),
+        sym (numbers-length l) ∙ page .same-count (numbers l) (x .path) (accepts b n l a) (x .accepted) (settled l a q) t ∙ sym (x .made),
+      )
 
   -- DEMAND 3, OVER THE NETWORK.
   pub reach : Reach b n

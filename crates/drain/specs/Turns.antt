@@ -7,14 +7,12 @@ use native.Mathlib.Nat.{sub-zero}
 use native.Mathlib.Numerals.{add-one}
 use native.Mathlib.Omega.{arith}
 use native.Mathlib.Decide.{ℕ-discrete}
-use lib.ListN.{length, take, length-take, length-append}
+use lib.ListN.{length, getD, take, length-take, length-append}
 use lib.Seq.{take-all, take-nil}
-use Rattle.sets.specs.Set.{has}
 use Rattle.flooding.specs.Network.{Net}
-use Rattle.flooding.specs.Machine.{Pair, run, row, todo, due, round, Drained, stopped, cut, more, drain}
+use Rattle.flooding.specs.Machine.{Pair, pair, run, due, round, Drained, stopped, drain}
 use Rattle.flooding.specs.Loop.{drain-stop, drain-round, drain-cut}
-use Rattle.flooding.proofs.Drain.{run-append}
-use Rattle.drain.specs.Pairs.{pairsOf, row-pairs}
+use Rattle.drain.specs.Pairs.{pairsOf, listOf}
 
 -- The first n of two lists: as many of the first as there are, and of the second what n leaves.
 pub take-both : (n : ℕ) (l r : List Pair) → take n (l ++ r) ≡ take n l ++ take (n - length (take n l)) r
@@ -24,39 +22,44 @@ take-both (suc n) (x ∷ l) r =
     let e : suc n - suc (length (take n l)) ≡ n - length (take n l) = omega arith in
     rw (e, take-both n l r)
 
+-- One list of forwards, and then another.
+run-append : {S : Type 0} (fwd : S → ℕ → ℕ → S) (s : S) (l r : List Pair) → run fwd s (l ++ r) ≡ run fwd (run fwd s l) r
+unfolding run
+run-append fwd s [] r = refl
+run-append fwd s (pair p m ∷ l) r = run-append fwd (fwd s p m) l r
+
 -- ---- the peers of a round, while the budget lasts
 
-module _ {S : Type 0} (view : S → Net) (fwd : S → ℕ → ℕ → S) (start : S) (left : ℕ) where
-  -- What the loop over the peers keeps: those below p have had their turn, as far as the budget went.
+module _ {S : Type 0} (fwd : S → ℕ → ℕ → S) (start : S) (l : List ℕ) (left : ℕ) where
+  -- What the loop over the peers keeps: those below p have had their turn, with their words of l, as far as the budget went.
   pub record Peers (p : ℕ) (now : S) (made : ℕ) : Type 0 where
-    pub state : now ≡ run fwd start (take left (todo 64 (view start) p))
-    pub count : made ≡ length (take left (todo 64 (view start) p))
-
-  pub peers-within : {p : ℕ} {now : S} {made : ℕ} → Peers p now made → made ≤ left
-  peers-within {p} v = omega (arith, v .count, length-take left (todo 64 (view start) p))
+    pub within : made ≤ left
+    pub state : now ≡ run fwd start (take left (listOf l p))
+    pub count : made ≡ length (take left (listOf l p))
 
   -- before the loop
   pub peers-none : Peers 0 start 0
-  unfolding todo run
-  peers-none = record { state = rw (take-nil left); count = rw (take-nil left) }
+  unfolding listOf run
+  peers-none = record { within = omega arith; state = rw (take-nil left); count = rw (take-nil left) }
 
-  -- one peer more, whose word of pending messages was w when the round began
-  pub peers-more : {p made k : ℕ} {now now′ : S} (w : ℕ) → Peers p now made → ((m : ℕ) → (view start) .pending p m ≡ has w m)
+  -- one peer more
+  pub peers-more : {p made k : ℕ} {now now′ : S} (w : ℕ) → Peers p now made → w ≡ getD l p 0
       → now′ ≡ run fwd now (take (left - made) (pairsOf p w 64)) → k ≡ length (take (left - made) (pairsOf p w 64)) → Peers (p + 1) now′ (made + k)
-  unfolding todo
+  unfolding listOf
   peers-more {p} {made} {k} {now} {now′} w v h e c =
       record {
+        within = omega (arith, v .within, c, length-take (left - made) (pairsOf p w 64));
         state =
-            e ∙ ap₂ (λ (s : S) (l : List Pair). run fwd s l) (v .state) front ∙ sym (run-append view fwd start (take left (todo 64 (view start) p)) _)
-            ∙ ap (λ (l : List Pair). run fwd start l) (sym whole);
-        count = ap₂ _+_ (v .count) (c ∙ ap length front) ∙ sym (length-append (take left (todo 64 (view start) p)) _) ∙ ap length (sym whole);
+            e ∙ ap₂ (λ (s : S) (x : List Pair). run fwd s x) (v .state) front ∙ sym (run-append fwd start (take left (listOf l p)) _)
+            ∙ ap (λ (x : List Pair). run fwd start x) (sym whole);
+        count = ap₂ _+_ (v .count) (c ∙ ap length front) ∙ sym (length-append (take left (listOf l p)) _) ∙ ap length (sym whole);
       }
     where
-      front : take (left - made) (pairsOf p w 64) ≡ take (left - length (take left (todo 64 (view start) p))) (row (view start) p 64)
-      front = ap₂ (λ (x : ℕ) (l : List Pair). take (left - x) l) (v .count) (sym (row-pairs (view start) p w 64 h))
+      front : take (left - made) (pairsOf p w 64) ≡ take (left - length (take left (listOf l p))) (pairsOf p (getD l p 0) 64)
+      front = ap₂ (λ (x y : ℕ). take (left - x) (pairsOf p y 64)) (v .count) h
 
-      whole : take left (todo 64 (view start) (p + 1)) ≡ take left (todo 64 (view start) p) ++ take (left - length (take left (todo 64 (view start) p))) (row (view start) p 64)
-      whole = rw (add-one p) (take-both left (todo 64 (view start) p) (row (view start) p 64))
+      whole : take left (listOf l (p + 1)) ≡ take left (listOf l p) ++ take (left - length (take left (listOf l p))) (pairsOf p (getD l p 0) 64)
+      whole = rw (add-one p) (take-both left (listOf l p) (pairsOf p (getD l p 0) 64))
 
 -- ---- the rounds of a drain, while the budget lasts
 

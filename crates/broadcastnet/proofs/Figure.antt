@@ -1,7 +1,7 @@
 -- 004's Figure 1 on the engine's own events, from the blank network on: why a partial broadcast may ask nothing of the message's origin, nor that
 -- anybody subscribes. Worked out by the definitions themselves. Assumes nothing.
 use mathlib.Core.Path.{_≡_, refl}
-use mathlib.Core.Bool.{true, false}
+use mathlib.Core.Bool.{false}
 use mathlib.Core.List.{List, [], _∷_}
 use Prim.Native.Nat.{ℕ, _+_}
 use lib.ListN.{replicate, set}
@@ -13,14 +13,14 @@ use Rattle.network.specs.Network.{mk, peer, message, originOf}
 use Rattle.network.specs.State.{blankNet}
 use Rattle.network.specs.Rows.{columns}
 use Rattle.events.specs.declared.Event.{Event}
-use Rattle.events.specs.declared.Event.the-variants.{Skip, Produce, Forward, Subscribe, Unsubscribe, Leave, Join}
+use Rattle.events.specs.declared.Event.the-variants.{Produce, Forward, Unsubscribe, Leave, Join}
 use Rattle.floodnet.specs.Produce.{holders, isNew, produced}
 use Rattle.floodnet.specs.Forward.{moved, receivers, given, forwarded}
-use Rattle.floodnet.specs.Topics.{withoutIf, noted, struck, unsubscribedFrom}
+use Rattle.floodnet.specs.Topics.{withoutIf, struck, unsubscribedFrom}
 use Rattle.floodnet.specs.Links.{unionIf, minusIf, keepIf, linkUp, linkDown, cleared, placed, left, joined}
 use Rattle.floodnet.specs.Refusals.{need, refusalProduce, refusalForward, refusalTopics, refusalLeave, refusalJoin}
 use Rattle.floodnet.specs.Step.{refusal, effect}
-use Rattle.broadcastnet.specs.Broadcast.{Broadcastnet, presentIn, broadcastPartial, audience}
+use Rattle.broadcastnet.specs.Broadcast.{presentIn, broadcastPartial, audience}
 use Rattle.broadcastnet.specs.Commit.{together, underway, without, image}
 
 -- message 5 is of topic 0, and its origin is peer 1

@@ -1,7 +1,7 @@
 -- The client's page (specs/Page.antt) holds for every message table whose rows were accepted. Assumes nothing.
 use mathlib.Core.Path.{_≡_, refl}
 use mathlib.Core.Logic.{_⊎_, inl, inr}
-use mathlib.Core.Bool.{Bool, true, false}
+use mathlib.Core.Bool.{true, false}
 use mathlib.Core.List.{List, [], _∷_}
 use Rattle.sets.specs.Bools.{either}
 use Rattle.network.specs.declared.Network.{Network}
@@ -16,7 +16,7 @@ use Rattle.floodnet.specs.StepLaws.{produce-met, forward-met, topics-met, leave
 use Rattle.broadcastnet.specs.Broadcast.{Broadcastnet, Step, rel-skip, rel-broadcast-partial, rel-subscribe, rel-unsubscribe, rel-leave, rel-join}
 use Rattle.broadcastnet.specs.Commit.{somewhere, whoSaw, image}
 use Rattle.broadcastnet.specs.CommitLaws.{image-quiet}
-use Rattle.broadcastnet.specs.Page.{Row, ForwardRow, Accepted, effects, images, Path, Related, Refines}
+use Rattle.broadcastnet.specs.Page.{Row, Accepted, effects, images, Path, Related, Refines}
 use Rattle.broadcastnet.proofs.Messages.{image-produced, forward-row}
 use Rattle.broadcastnet.proofs.Members.{subscribe-row, unsubscribe-row, leave-row, join-row}
 

@@ -1,6 +1,7 @@
 -- THE CLIENT'S PAGE: demand 2 of the minutes, "Seen through the commitment map, it is one Broadcastnet step or no change, as tabled."
 -- The table is document 01's ("Commitment map"). n is the network before an event, o the network after it; Broadcastnet's state and steps
--- are in specs/Broadcast.antt, the image in specs/Commit.antt. proofs/Refines.antt proves the whole page. Assumes nothing.
+-- are in specs/Broadcast.antt, the image in specs/Commit.antt. An event that fits has its numbers in range, as every event that is read; it is
+-- accepted where `refusal` is 0. proofs/Refines.antt proves the whole page. Assumes nothing.
 use mathlib.Core.Path.{_≡_}
 use mathlib.Core.Bool.{true, false}
 use mathlib.Core.List.{List, [], _∷_}
@@ -82,7 +83,7 @@ Path b s (v ∷ l) u = Step b s v × Path b v l u
 
 -- ---- what is promised
 
--- 004's relation rel-wf of a Floodnet state and a Broadcastnet state
+-- 004's relation of a Floodnet state and a Broadcastnet state: (definec rel-wf (x y :borf) :bool (^ (s-fnp x) (s-bnp y) (good-s-fnp x) (== y (f2b x))))
 pub record Related (n : Network) (w : Broadcastnet) : Type 0 where
   pub sound : Sound n
   pub shown : w ≡ image n

@@ -1,6 +1,10 @@
 pub mod Network
 pub mod Sound
 pub mod Rules
+pub mod Tests
+pub mod Joining
+pub mod Backing
 pub mod State
+pub mod Layout
 pub mod Rows
 pub mod SoundLaws

@@ -1,6 +1,9 @@
 // The network: its working state, what a sound one is, and how it is read from and written to 5,120 bytes (document 01,
 // "Numbers and state", "Records"). Read specs/Network.antt (the state and what can be observed of it), specs/Rules.antt
 // (soundness, rule by rule), specs/State.antt (the records) and specs/Rows.antt (the message table).
+mod load;
+mod rules;
+
 ghost use mathlib.Core.Path.{_≡_};
 
 // "A peer number, a topic number and a message number are separate sorts": none stands where another is meant.

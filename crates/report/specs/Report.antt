@@ -5,7 +5,7 @@ use mathlib.Core.Path.{_≡_}
 use mathlib.Core.Bool.{Bool, true, false, cond, _&&_, _||_}
 use mathlib.Core.List.{List, [], _∷_, _++_}
 use Prim.Native.Nat.{ℕ, zero, suc, _≤_}
-use lib.Dec.{eqb, leb}
+use lib.Dec.{eqb, leb, ltb}
 use lib.ListN.{length, drop}
 use Rattle.sets.specs.Set.{size}
 use Rattle.network.specs.declared.Peer.{Peer}
@@ -53,9 +53,17 @@ shownFor number = eqb number 0 || (leb 6 number && leb number 16)
 unfoldable pub reportOf : ℕ → ℕ → ℕ → Network → Bool → List ℕ
 reportOf number place accepted n shown = firstLine number place accepted ++ cond shown (peerLines n) []
 
--- What `report` promises of the buffer before and after it and of its answer: what is printed stands at the front, the bytes behind it are
--- as they were, and the answer is how many were printed.
+-- The buffer b after a text was put there: the text, then the bytes that stood behind it. A buffer below 1,024 bytes is left as it was:
+-- what is printed is never longer (specs/ReportLaws.antt).
+unfoldable pub putIn : List ℕ → List ℕ → List ℕ
+putIn text b = cond (ltb (length b) 1024) b (text ++ drop (length text) b)
+
+-- how many bytes were put
+unfoldable pub countIn : List ℕ → List ℕ → ℕ
+countIn text b = cond (ltb (length b) 1024) 0 (length text)
+
+-- What `report` promises of its answer and of the buffer at entry and exit.
 pub record Reported (number place accepted : ℕ) (n : Network) (shown : Bool) (entry exit : List ℕ) (answer : ℕ) : Type 0 where
-  pub count : answer ≡ length (reportOf number place accepted n shown)
-  pub bytes : exit ≡ reportOf number place accepted n shown ++ drop answer entry
+  pub count : answer ≡ countIn (reportOf number place accepted n shown) entry
+  pub bytes : exit ≡ putIn (reportOf number place accepted n shown) entry
   pub room : answer ≤ 1024

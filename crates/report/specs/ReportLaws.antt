@@ -6,6 +6,7 @@ use Prim.Native.Nat.{ℕ, zero, suc, _+_, _*_, _^_, _≤_, _<_}
 use native.Mathlib.Omega.{arith}
 use native.Mathlib.Numerals.{add-one}
 use lib.ListN.{length, length-append}
+use borrow.Author.Tests.{lt-ltb, le-ltb}
 use Rattle.sets.specs.Sizes.{size-le}
 use Rattle.sets.specs.Set.{size}
 use Rattle.network.specs.declared.Peer.{Peer}
@@ -14,7 +15,7 @@ use Rattle.network.specs.Network.{peer, subsOf, pendingOf, seenOf, present, Sha
 use Rattle.report.specs.Text.{decimal, spaced, newline}
 use Rattle.report.specs.TextLaws.{length-count, length-byte, spaced-count, spaced-long}
 use Rattle.report.specs.Write.{Wrote, wrote-then, wrote-front}
-use Rattle.report.specs.Report.{flood, peerWord, firstLine, countLine, peerLine, lineIf, linesTo, peerLines, reportOf, Reported}
+use Rattle.report.specs.Report.{flood, peerWord, firstLine, countLine, peerLine, lineIf, linesTo, peerLines, reportOf, putIn, countIn, Reported}
 
 -- The first line: 6 + 3 + 1 + 20 + 1 + 20 + 1.
 pub length-first : (number place accepted : ℕ) → number < 256 → place < 2 ^ 64 → accepted < 2 ^ 64 → length (firstLine number place accepted) ≤ 52
@@ -72,9 +73,33 @@ pub lines-same : {l : List ℕ} {at : ℕ} {r : List ℕ} {i : ℕ} (k : ℕ) (n
 unfolding linesTo lineIf
 lines-same k n h v = rw (add-one k, h, append-nil (linesTo k n)) v
 
--- What was written from the start on is what `report` promises.
-pub reported : {l r : List ℕ} {j : ℕ} (number place accepted : ℕ) (n : Network) (shown : Bool) → length l ≡ 1024 → j ≤ 1024
+-- A short buffer is left as it was.
+pub reported-none : (number place accepted : ℕ) (n : Network) (shown : Bool) (l : List ℕ) → length l < 1024 → Reported number place accepted n shown l l 0
+unfolding putIn countIn
+reported-none number place accepted n shown l h =
+    record { count = rw (lt-ltb (length l) 1024 h); bytes = rw (lt-ltb (length l) 1024 h); room = omega arith }
+
+-- What was written from the start on is what is promised.
+reported : {l r : List ℕ} {j : ℕ} (number place accepted : ℕ) (n : Network) (shown : Bool) → 1024 ≤ length l → j ≤ 1024
     → Wrote l 0 (reportOf number place accepted n shown) r j → Reported number place accepted n shown l r j
+unfolding putIn countIn
 reported {l} number place accepted n shown e h w =
     let f = wrote-front (omega arith) w in
-    record { count = f .0; bytes = f .1; room = h }
+    record {
+      count = rw (le-ltb (length l) 1024 e) (f .0);
+      bytes = rw (le-ltb (length l) 1024 e) (f .1 ∙ rw (f .0));
+      room = h;
+    }
+
+-- The first line alone.
+pub reported-first : {l r : List ℕ} {j : ℕ} (number place accepted : ℕ) (n : Network) (shown : Bool) → 1024 ≤ length l → shown ≡ false
+    → Wrote l 0 (firstLine number place accepted) r j × (j ≤ 52) → Reported number place accepted n shown l r j
+unfolding reportOf
+reported-first number place accepted n shown e h w =
+    reported number place accepted n shown e (omega arith) (rw (h, append-nil (firstLine number place accepted)) (w .0))
+
+-- The first line and the peers.
+pub reported-all : {l r s : List ℕ} {i j : ℕ} (number place accepted : ℕ) (n : Network) (shown : Bool) → 1024 ≤ length l → shown ≡ true
+    → Wrote l 0 (firstLine number place accepted) r i → Wrote r i (peerLines n) s j × (j ≤ 596) → Reported number place accepted n shown l s j
+unfolding reportOf
+reported-all number place accepted n shown e h v w = reported number place accepted n shown e (omega arith) (rw h (wrote-then v (w .0)))

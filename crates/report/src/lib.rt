@@ -11,12 +11,14 @@ mod text;
 use network::Network;
 ghost use mathlib.Core.Path.{_≡_};
 ghost use Prim.Native.Nat.{_+_, _≤_, _<_};
+ghost use lib.ListN.{length};
 ghost use Rattle.sets.specs.Set.{size};
 ghost use Rattle.report.specs.Write.{Wrote};
 ghost use Rattle.report.specs.Report.{firstLine, countLine, peerLines, shownFor, Reported};
 
 // "`FLOOD `, then number, place, accepted".
-fn first_line(out: &mut [u8; 1024], number: u8, place: usize, accepted: usize) -> usize
+fn first_line(out: &mut [u8], number: u8, place: usize, accepted: usize) -> usize
+    requires { ⌜ 52 ≤ length (now out) ⌝ }
     ensures { λ r. ⌜ Wrote (now (out .entry)) 0 (firstLine number place accepted) (now (out .exit)) r × (r ≤ 52) ⌝ }
 {
     let word = text::copy(&mut *out, 0, b"FLOOD ");
@@ -27,8 +29,8 @@ fn first_line(out: &mut [u8; 1024], number: u8, place: usize, accepted: usize) -
 }
 
 // "`PEER `, its number, and how many topics it subscribes to, messages are pending, messages seen".
-fn peer_line(out: &mut [u8; 1024], at: usize, p: u32, subs: u32, pending: u64, seen: u64) -> usize
-    requires { ⌜ (p < 32) × (at + 17 ≤ 1024) ⌝ }
+fn peer_line(out: &mut [u8], at: usize, p: u32, subs: u32, pending: u64, seen: u64) -> usize
+    requires { ⌜ (p < 32) × (at + 17 ≤ length (now out)) ⌝ }
     ensures { λ r. ⌜ Wrote (now (out .entry)) at (countLine p (size subs) (size pending) (size seen)) (now (out .exit)) r × (r ≤ at + 17) ⌝ }
 {
     let word = text::copy(&mut *out, at, b"PEER ");
@@ -40,8 +42,8 @@ fn peer_line(out: &mut [u8; 1024], at: usize, p: u32, subs: u32, pending: u64, s
 }
 
 // "for each present peer rising".
-fn peer_lines(out: &mut [u8; 1024], at: usize, n: Network) -> usize
-    requires { ⌜ at ≤ 52 ⌝ }
+fn peer_lines(out: &mut [u8], at: usize, n: Network) -> usize
+    requires { ⌜ (at ≤ 52) × (596 ≤ length (now out)) ⌝ }
     ensures { λ r. ⌜ Wrote (now (out .entry)) at (peerLines n) (now (out .exit)) r × (r ≤ 596) ⌝ }
 {
     let mut next = at;
@@ -64,9 +66,12 @@ pub fn shown(number: u8) -> bool
 }
 
 // What is printed of a run's answer and the network after it, with the peers where `show` says so; answers its length.
-pub fn report(number: u8, place: usize, accepted: usize, n: Network, show: bool, out: &mut [u8; 1024]) -> usize
+pub fn report(number: u8, place: usize, accepted: usize, n: Network, show: bool, out: &mut [u8]) -> usize
     ensures { λ r. ⌜ Reported number place accepted n show (now (out .entry)) (now (out .exit)) r ⌝ }
 {
+    if out.len() < 1024 {
+        return 0;
+    }
     let first = first_line(&mut *out, number, place, accepted);
     if !show {
         return first;

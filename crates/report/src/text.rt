@@ -6,8 +6,8 @@ ghost use Rattle.report.specs.Text.{decimal, spaced as spacedText, newli
 ghost use Rattle.report.specs.Write.{Wrote};
 
 // The bytes of s.
-pub(crate) fn copy(out: &mut [u8; 1024], at: usize, s: &[u8]) -> usize
-    requires { ⌜ at + length (now s) ≤ 1024 ⌝ }
+pub(crate) fn copy(out: &mut [u8], at: usize, s: &[u8]) -> usize
+    requires { ⌜ at + length (now s) ≤ length (now out) ⌝ }
     ensures { λ r. ⌜ Wrote (now (out .entry)) at (now (s .entry)) (now (out .exit)) r ⌝ }
 {
     let mut i: usize = 0;
@@ -19,8 +19,8 @@ pub(crate) fn copy(out: &mut [u8; 1024], at: usize, s: &[u8]) -> usize
 }
 
 // x in decimal: from 10 on its tenth, then its last digit.
-pub(crate) fn number(out: &mut [u8; 1024], at: usize, x: usize) -> usize
-    requires { ⌜ at + length (decimal x) ≤ 1024 ⌝ }
+pub(crate) fn number(out: &mut [u8], at: usize, x: usize) -> usize
+    requires { ⌜ at + length (decimal x) ≤ length (now out) ⌝ }
     ensures { λ r. ⌜ Wrote (now (out .entry)) at (decimal x) (now (out .exit)) r ⌝ }
 {
     if x < 10 {
@@ -33,8 +33,8 @@ pub(crate) fn number(out: &mut [u8; 1024], at: usize, x: usize) -> usize
 }
 
 // A space, then x in decimal.
-pub(crate) fn spaced(out: &mut [u8; 1024], at: usize, x: usize) -> usize
-    requires { ⌜ at + length (spacedText x) ≤ 1024 ⌝ }
+pub(crate) fn spaced(out: &mut [u8], at: usize, x: usize) -> usize
+    requires { ⌜ at + length (spacedText x) ≤ length (now out) ⌝ }
     ensures { λ r. ⌜ Wrote (now (out .entry)) at (spacedText x) (now (out .exit)) r ⌝ }
 {
     out[at] = b' ';
@@ -42,8 +42,8 @@ pub(crate) fn spaced(out: &mut [u8; 1024], at: usize, x: usize) -> usize
 }
 
 // The end of a line.
-pub(crate) fn newline(out: &mut [u8; 1024], at: usize) -> usize
-    requires { ⌜ at < 1024 ⌝ }
+pub(crate) fn newline(out: &mut [u8], at: usize) -> usize
+    requires { ⌜ at < length (now out) ⌝ }
     ensures { λ r. ⌜ Wrote (now (out .entry)) at newlineText (now (out .exit)) r ⌝ }
 {
     out[at] = b'\n';

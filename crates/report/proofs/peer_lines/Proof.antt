@@ -1,21 +1,18 @@
 -- `report::peer_lines` meets its contract. Assumes nothing.
 use borrow.Author.Needs.{needs}
-use mathlib.Core.Path.{_≡_, sym, _∙_}
+use mathlib.Core.Path.{_≡_, sym, ap, _∙_}
 use mathlib.Core.Logic.{⊎-elim}
-use Prim.Native.Nat.{ℕ, _+_, _-_, _*_, _≤_}
+use Prim.Native.Nat.{_+_, _-_, _*_, _≤_}
 use native.Mathlib.Omega.{arith}
+use lib.ListN.{length}
 use Rattle.report.specs.Write.{Wrote, wrote-none}
 use Rattle.report.specs.Report.{linesTo, peerLines, peerLine}
 use Rattle.report.specs.ReportLaws.{lines-more, lines-same}
 use Rattle.report.proofs.peer_lines.Statement.{statement}
 use Rattle.report.proofs.peer_lines.Tie as tie
-use Rattle.report.proofs.peer_lines.Reads as reads
-use Rattle.report.proofs.peer_lines.Lts as lts
-use Rattle.report.proofs.peer_line.Reads as peer-line-reads
-use Rattle.sets.proofs.has32.Reads as has32-reads
 
 abbrev Inv-loop : tie.InvT-loop
-Inv-loop out₀ at n next₀ p₀ out next p = ((p ≤ 32) × (next ≤ at + 17 * p)) × Wrote out₀ at (linesTo p n) out next
+Inv-loop out₀ at n next₀ p₀ out next p = ((p ≤ 32) × (next ≤ at + 17 * p) × (length out ≡ length out₀)) × Wrote out₀ at (linesTo p n) out next
 
 abbrev μ-loop : tie.MeasureT-loop
 μ-loop out₀ at n next₀ p₀ out next p = 32 - p
@@ -61,12 +58,15 @@ loop-again : tie.Need-loop-again Inv-loop μ-loop
 unfolding peerLine
 loop-again c =
     let l = c .before .before .before .loop in
-    let n = c .before .before .before .before .args .t3 in
+    let n = c .before .before .before .before .before .args .t3 in
     let f = c .before .has32 .ensures in
     ⊎-elim
-    (λ w. (omega (arith, w .5 .ensures .1, w .7), rw (w .6, w .7) (lines-more (l .p) n (sym f ∙ w .0 .taken) (l .inv .1) (w .5 .ensures .0))))
-    (λ w. (omega (arith, w .2), rw (w .1, w .2) (lines-same (l .p) n (sym f ∙ w .0 .left) (l .inv .1))))
+    (λ w. (omega (arith, w .5 .ensures .1, w .5 .kept .0, ap length (w .8), w .9), rw (w .8, w .9) (lines-more (l .p) n (sym f ∙ w .0 .taken) (l .inv .1) (w .5 .ensures .0))))
+    (λ w. (omega (arith, ap length (w .1), w .2), rw (w .1, w .2) (lines-same (l .p) n (sym f ∙ w .0 .left) (l .inv .1))))
     (c .if1 .came)
+
+same-length : tie.Need-same-length Inv-loop μ-loop
+same-length c = search needs
 
 returns : tie.Need-returns Inv-loop μ-loop
 unfolding peerLines
@@ -91,4 +91,5 @@ peer-lines-spec =
     add-p
     loop-less
     loop-again
+    same-length
     returns)

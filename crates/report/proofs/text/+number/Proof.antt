@@ -2,6 +2,7 @@
 use borrow.Author.Needs.{needs}
 use Prim.Native.Nat.{ℕ, _<_}
 use native.Mathlib.Omega.{arith}
+use lib.ListN.{length-set}
 use Rattle.report.specs.TextLaws.{length-small, length-more}
 use Rattle.report.specs.Write.{wrote-small, wrote-tenth}
 use borrow.Fn.Kinds.{In}
@@ -29,15 +30,18 @@ number-add-out :
     (t : ℕ) → number-lts.Need-add-out (number-below t, number.Post) (number-at t) number.Post
 number-add-out t c = search needs
 
-number-element-write-out : (t : ℕ) → number-lts.Need-element-write-out (
-  number-below t,
-  number.Post,
-) (number-at t) number.Post
-number-element-write-out t c = omega (arith, length-small _ (c .if1 .taken))
+number-slice-write-out :
+    (t : ℕ) →
+    number-lts.Need-slice-write-out (number-below t, number.Post) (number-at t) number.Post
+number-slice-write-out t c = omega (arith, length-small _ (c .if1 .taken))
 
 number-add-result :
     (t : ℕ) → number-lts.Need-add-result (number-below t, number.Post) (number-at t) number.Post
-number-add-result t c = search needs
+number-add-result t c = omega (arith, length-small _ (c .if1 .taken))
+
+number-same-length :
+    (t : ℕ) → number-lts.Need-same-length (number-below t, number.Post) (number-at t) number.Post
+number-same-length t c = search needs
 
 number-returns :
     (t : ℕ) → number-lts.Need-returns (number-below t, number.Post) (number-at t) number.Post
@@ -56,19 +60,24 @@ number-add-out-2 :
     (t : ℕ) → number-lts.Need-add-out-2 (number-below t, number.Post) (number-at t) number.Post
 number-add-out-2 t c = search needs
 
-number-element-write-out-2 : (t : ℕ) → number-lts.Need-element-write-out-2 (
+number-slice-write-out-2 : (t : ℕ) → number-lts.Need-slice-write-out-2 (
   number-below t,
   number.Post,
 ) (number-at t) number.Post
-number-element-write-out-2 t c = omega (arith, length-more _ (c .before .before .if1 .left))
+number-slice-write-out-2 t c = omega (arith, length-more _ (c .before .before .before .before .if1 .left))
 
 number-add-result-2 :
     (t : ℕ) → number-lts.Need-add-result-2 (number-below t, number.Post) (number-at t) number.Post
-number-add-result-2 t c = omega (arith, length-more _ (c .before .before .if1 .left))
+number-add-result-2 t c = omega (arith, length-more _ (c .before .before .before .before .if1 .left))
+
+number-same-length-2 :
+    (t : ℕ) →
+    number-lts.Need-same-length-2 (number-below t, number.Post) (number-at t) number.Post
+number-same-length-2 t c = search needs
 
 number-returns-2 :
     (t : ℕ) → number-lts.Need-returns-2 (number-below t, number.Post) (number-at t) number.Post
-number-returns-2 t c = wrote-tenth _ (c .before .before .if1 .left) (c .number .ensures)
+number-returns-2 t c = wrote-tenth _ (c .before .before .before .before .if1 .left) (c .before .before .number .ensures)
 
 pub +number-spec : {M : Type 1} → statement M
 +number-spec =
@@ -80,12 +89,14 @@ pub +number-spec : {M : Type 1} → statement M
     number.Post
     (number-cast-out t)
     (number-add-out t)
-    (number-element-write-out t)
+    (number-slice-write-out t)
     (number-add-result t)
+    (number-same-length t)
     (number-returns t)
     (number-number-requires t)
     (number-cast-out-2 t)
     (number-add-out-2 t)
-    (number-element-write-out-2 t)
+    (number-slice-write-out-2 t)
     (number-add-result-2 t)
+    (number-same-length-2 t)
     (number-returns-2 t)

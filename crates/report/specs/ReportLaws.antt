@@ -1,11 +1,11 @@
 -- How long what is printed can be, and the loop that writes the lines of the peers. Assumes nothing.
-use mathlib.Core.Path.{_≡_, refl, ap, _∙_}
+use mathlib.Core.Path.{_≡_, sym, _∙_}
 use mathlib.Core.Bool.{Bool, true, false, cond}
 use mathlib.Core.List.{List, [], _∷_, _++_, append-nil}
 use Prim.Native.Nat.{ℕ, zero, suc, _+_, _*_, _^_, _≤_, _<_}
 use native.Mathlib.Omega.{arith}
 use native.Mathlib.Numerals.{add-one}
-use lib.ListN.{length, length-append}
+use lib.ListN.{length, drop, length-append}
 use borrow.Author.Tests.{lt-ltb, le-ltb}
 use Rattle.sets.specs.Sizes.{size-le}
 use Rattle.sets.specs.Set.{size}
@@ -103,3 +103,19 @@ pub reported-all : {l r s : List ℕ} {i j : ℕ} (number place accepted : ℕ) 
     → Wrote l 0 (firstLine number place accepted) r i → Wrote r i (peerLines n) s j × (j ≤ 596) → Reported number place accepted n shown l s j
 unfolding reportOf
 reported-all number place accepted n shown e h v w = reported number place accepted n shown e (omega arith) (rw h (wrote-then v (w .0)))
+
+-- ---- what the promise of `report` comes to
+
+-- It settles the answer and every byte.
+pub reported-once : {number place accepted : ℕ} {n : Network} {shown : Bool} {l r s : List ℕ} {i j : ℕ} → Reported number place accepted n shown l r i
+    → Reported number place accepted n shown l s j → (i ≡ j) × (r ≡ s)
+reported-once v w = (v .count ∙ sym (w .count), v .bytes ∙ sym (w .bytes))
+
+-- In a buffer of 1,024 bytes or more: all of the text, and behind it what stood there.
+pub reported-whole : {number place accepted : ℕ} {n : Network} {shown : Bool} {l r : List ℕ} {j : ℕ} → 1024 ≤ length l
+    → Reported number place accepted n shown l r j
+    → (j ≡ length (reportOf number place accepted n shown)) × (r ≡ reportOf number place accepted n shown ++ drop j l)
+unfolding putIn countIn
+reported-whole {l = l} h w =
+    let e = rw (le-ltb (length l) 1024 h) at (w .count) in
+    (e, rw (le-ltb (length l) 1024 h) at (w .bytes) ∙ rw e)

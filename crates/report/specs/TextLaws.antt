@@ -109,10 +109,6 @@ length-more x h = rw (decimal-more x h) (length-append (decimal (x / 10)) (figur
 pub length-small : (x : ℕ) → x < 10 → length (decimal x) ≡ 1
 length-small x h = rw (decimal-small x h)
 
--- There is a digit.
-pub length-some : (x : ℕ) → 0 < length (decimal x)
-length-some = by-digits (λ (x : ℕ). 0 < length (decimal x)) (λ x h. omega (arith, length-small x h)) (λ x h ih. omega (arith, length-more x h))
-
 -- A number below 10 ^ k has at most k digits, or one.
 pub length-below : (k x : ℕ) → x < 10 ^ suc k → length (decimal x) ≤ suc k
 length-below zero x h = let l : x < 10 = omega (arith, pow-suc 10 0) in omega (arith, length-small x l)

@@ -5,7 +5,7 @@ use Prim.Native.Nat.{ℕ, suc, _+_, _/_, _%_, _≤_, _<_}
 use native.Mathlib.Omega.{arith}
 use native.Mathlib.Numerals.{add-one}
 use lib.ListN.{length, getD, set, take, drop, length-append}
-use lib.Seq.{sets, sets-eq, length-sets, take-suc, take-all}
+use lib.Seq.{sets, sets-eq, take-suc, take-all}
 use Rattle.report.specs.Text.{figure, decimal}
 use Rattle.report.specs.TextLaws.{decimal-small, decimal-more}
 
@@ -23,11 +23,6 @@ pub written-front : (l bs : List ℕ) → length bs ≤ length l → written l 0
 written-front l bs h =
     let e : 0 + length bs ≡ length bs = omega arith in
     written-is l 0 bs (omega arith) ∙ ap (λ (k : ℕ). bs ++ drop k l) e
-
--- Nothing is added or dropped.
-pub length-written : (l : List ℕ) (at : ℕ) (bs : List ℕ) → length (written l at bs) ≡ length l
-unfolding written
-length-written = length-sets
 
 -- Bytes behind bytes.
 pub written-append : (l : List ℕ) (at : ℕ) (bs cs : List ℕ) → written (written l at bs) (at + length bs) cs ≡ written l at (bs ++ cs)

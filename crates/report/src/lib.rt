@@ -66,7 +66,14 @@ pub fn shown(number: u8) -> bool
 }
 
 // What is printed of a run's answer and the network after it, with the peers where `show` says so; answers its length.
-pub fn report(number: u8, place: usize, accepted: usize, n: Network, show: bool, out: &mut [u8]) -> usize
+pub fn report(
+    number: u8,
+    place: usize,
+    accepted: usize,
+    n: Network,
+    show: bool,
+    out: &mut [u8],
+) -> usize
     ensures { λ r. ⌜ Reported number place accepted n show (now (out .entry)) (now (out .exit)) r ⌝ }
 {
     if out.len() < 1024 {

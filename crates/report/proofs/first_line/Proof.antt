@@ -54,8 +54,7 @@ returns c =
     let a = b .before .before .before .before in
     let n = a .before .before .before .before in
     let w = n .before .before .before .before in
-    let s = w .before .before .before .before in
-    (
+    let s = w .before .before .before .before in (
       wrote-then (wrote-then (wrote-then (wrote-then (w .copy .ensures) (n .number .ensures)) (a .spaced .ensures)) (b .spaced2 .ensures)) (e .newline .ensures),
       omega (arith, w .copy .ensures, n .number .ensures, a .spaced .ensures, b .spaced2 .ensures, e .newline .ensures, length-byte (s .args .number) (s .fits .number .fits), spaced-long (s .args .place) (s .fits .place .fits), spaced-long (s .args .accepted) (s .fits .accepted .fits)),
     )

@@ -95,12 +95,11 @@ returns c =
     let z1 = a .before in
     let n = z1 .before .before .before .before in
     let w = n .before .before .before .before in
-    let s = w .before .before .before .before in
-    (
+    let s = w .before .before .before .before in (
       rw (← z1 .size32 .ensures .0, ← z2 .size64 .ensures .0, ← z3 .size642 .ensures .0)
-      (wrote-then
-      (wrote-then (wrote-then (wrote-then (wrote-then (w .copy .ensures) (n .number .ensures)) (a .spaced .ensures)) (b .spaced2 .ensures)) (d .spaced3 .ensures))
-      (e .newline .ensures)),
+          (wrote-then
+          (wrote-then (wrote-then (wrote-then (wrote-then (w .copy .ensures) (n .number .ensures)) (a .spaced .ensures)) (b .spaced2 .ensures)) (d .spaced3 .ensures))
+          (e .newline .ensures)),
       omega (arith, w .copy .ensures, n .number .ensures, a .spaced .ensures, b .spaced2 .ensures, d .spaced3 .ensures, e .newline .ensures, length-count (s .args .p) (omega (arith, s .pre)), spaced-count (z1 .size32 .result) (omega (arith, z1 .size32 .ensures)), spaced-count (z2 .size64 .result) (omega (arith, z2 .size64 .ensures)), spaced-count (z3 .size642 .result) (omega (arith, z3 .size642 .ensures))),
     )
 

@@ -2,7 +2,6 @@
 use borrow.Author.Needs.{needs}
 use Prim.Native.Nat.{ℕ, _<_}
 use native.Mathlib.Omega.{arith}
-use lib.ListN.{length-set}
 use Rattle.report.specs.TextLaws.{length-small, length-more}
 use Rattle.report.specs.Write.{wrote-small, wrote-tenth}
 use borrow.Fn.Kinds.{In}

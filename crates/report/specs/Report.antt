@@ -2,7 +2,7 @@
 --   "Its first line begins with the fixed bytes `FLOOD `, then number, place, accepted. For 0 and any refused event follows, for each
 --   present peer rising, `PEER `, its number, and how many topics it subscribes to, messages are pending, messages seen."
 use mathlib.Core.Path.{_≡_}
-use mathlib.Core.Bool.{Bool, true, false, cond, _&&_, _||_}
+use mathlib.Core.Bool.{Bool, cond, _&&_, _||_}
 use mathlib.Core.List.{List, [], _∷_, _++_}
 use Prim.Native.Nat.{ℕ, zero, suc, _≤_}
 use lib.Dec.{eqb, leb, ltb}

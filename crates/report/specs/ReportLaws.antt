@@ -1,18 +1,16 @@
 -- How long what is printed can be, and the loop that writes the lines of the peers. Assumes nothing.
 use mathlib.Core.Path.{_≡_, sym, _∙_}
 use mathlib.Core.Bool.{Bool, true, false, cond}
-use mathlib.Core.List.{List, [], _∷_, _++_, append-nil}
+use mathlib.Core.List.{List, [], _++_, append-nil}
 use Prim.Native.Nat.{ℕ, zero, suc, _+_, _*_, _^_, _≤_, _<_}
 use native.Mathlib.Omega.{arith}
 use native.Mathlib.Numerals.{add-one}
 use lib.ListN.{length, drop, length-append}
 use borrow.Author.Tests.{lt-ltb, le-ltb}
 use Rattle.sets.specs.Sizes.{size-le}
-use Rattle.sets.specs.Set.{size}
 use Rattle.network.specs.declared.Peer.{Peer}
 use Rattle.network.specs.declared.Network.{Network}
 use Rattle.network.specs.Network.{peer, subsOf, pendingOf, seenOf, present, Shaped}
-use Rattle.report.specs.Text.{decimal, spaced, newline}
 use Rattle.report.specs.TextLaws.{length-count, length-byte, spaced-count, spaced-long}
 use Rattle.report.specs.Write.{Wrote, wrote-then, wrote-front}
 use Rattle.report.specs.Report.{flood, peerWord, firstLine, countLine, peerLine, lineIf, linesTo, peerLines, reportOf, putIn, countIn, Reported}

@@ -1,12 +1,12 @@
 -- Bytes written into a buffer from a place on: what one write leaves, and two in a row. Assumes nothing.
-use mathlib.Core.Path.{_≡_, refl, sym, ap, _∙_}
+use mathlib.Core.Path.{_≡_, refl, ap, _∙_}
 use mathlib.Core.List.{List, [], _∷_, _++_}
 use Prim.Native.Nat.{ℕ, suc, _+_, _/_, _%_, _≤_, _<_}
 use native.Mathlib.Omega.{arith}
 use native.Mathlib.Numerals.{add-one}
 use lib.ListN.{length, getD, set, take, drop, length-append}
 use lib.Seq.{sets, sets-eq, take-suc, take-all}
-use Rattle.report.specs.Text.{figure, decimal}
+use Rattle.report.specs.Text.{decimal}
 use Rattle.report.specs.TextLaws.{decimal-small, decimal-more}
 
 -- l with the bytes bs stored one by one from place at on

@@ -2,7 +2,8 @@
 // run reached its events, a line `PEER ` for each present peer with three counts.
 //
 // What it promises: `report` writes exactly the bytes of `reportOf` (specs/Report.antt) to the front of a lent buffer, leaves the bytes
-// behind them as they were, and answers how many it wrote. Nothing is asked of its caller: what is printed always fits (specs/ReportLaws.antt).
+// behind them as they were, and answers how many it wrote. Nothing is asked of its caller: a buffer below 1,024 bytes is left as it was and
+// the answer is 0, and what is printed is never longer than 596 bytes (specs/ReportLaws.antt).
 //
 // Read on: specs/Text.antt (decimals), specs/Report.antt (the lines); their laws in specs/TextLaws.antt and specs/ReportLaws.antt; 01's example in
 // specs/Examples.antt; src/text.rt (writing bytes and numbers at a place of the buffer, specs/Write.antt).
@@ -65,7 +66,7 @@ pub fn shown(number: u8) -> bool
     number == 0 || (6 <= number && number <= 16)
 }
 
-// What is printed of a run's answer and the network after it, with the peers where `show` says so; answers its length.
+// What is printed of a run's answer and the network after it, with the peers where `show` says so (for a run: `shown(number)`); answers its length.
 pub fn report(
     number: u8,
     place: usize,

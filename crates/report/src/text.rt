@@ -1,5 +1,4 @@
 // Bytes and numbers written into the buffer from a place on; each function answers the place behind what it wrote (`Wrote` of specs/Write.antt).
-ghost use mathlib.Core.List.{_∷_, []};
 ghost use Prim.Native.Nat.{_+_, _≤_, _<_};
 ghost use lib.ListN.{length};
 ghost use Rattle.report.specs.Text.{decimal, spaced as spacedText, newline as newlineText};

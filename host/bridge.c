@@ -38,7 +38,7 @@ static bool read_call(struct call *call)
     }
     for (int i = 0; i < BUFFERS; i++) {
         memcpy(&call->length[i], call->head + LENGTHS + 8 * i, 8);
-        call->buffer[i] = malloc(call->length[i] + 1);
+        call->buffer[i] = call->length[i] < SIZE_MAX ? malloc(call->length[i] + 1) : NULL;
         if (call->buffer[i] == NULL) {
             stop("no memory for a buffer");
         }

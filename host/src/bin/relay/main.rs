@@ -116,20 +116,25 @@ fn talk(aloud: bool) -> Result<(), Trouble> {
     }
 }
 
-/// Writes a script's events as records. Nothing is run.
+/// Writes a script's events since its last `blank` or `load` as records. Nothing is run.
 fn encode(script: &str, file: &str) -> Result<(), Trouble> {
     let mut records = Vec::new();
+    let mut no_event = None;
     for (line, command) in read_script(script)? {
         match command {
             Command::Event(event) => records.extend(event.encode()),
-            Command::Drain(_) | Command::Run(_) => {
-                let message = format!("{script}:{line}: this line is no event, so a list of events can't say it");
-                return Err(Trouble::Text(message));
-            }
+            Command::Drain(_) | Command::Run(_) => no_event = Some(line),
+            Command::Blank | Command::Load(..) => (records, no_event) = (Vec::new(), None),
             _ => {}
         }
     }
-    files::write(file, &records)
+    match no_event {
+        None => files::write(file, &records),
+        Some(line) => {
+            let message = "this line changes the network and is no event, so event records can't say it".to_string();
+            Err(Trouble::Text(message).at(script, line))
+        }
+    }
 }
 
 /// Prints a record file as text, up to the first record that is no event.

@@ -53,7 +53,7 @@ impl Standing {
 struct Node {
     peer: Peer,
     colour: &'static str,
-    /// What stands below its number.
+    /// What stands beside it.
     lines: Vec<String>,
 }
 
@@ -64,7 +64,13 @@ fn nodes(network: &Network, table: &Table, message: Option<Message>) -> Vec<Node
             Node { peer, colour: standing.colour(), lines: vec![standing.words().into()] }
         }
         None => {
-            let mut lines = vec![format!("subs {}", desk.subs), format!("pubs {}", desk.pubs)];
+            let mut lines = Vec::new();
+            if !desk.subs.is_empty() {
+                lines.push(format!("subs {}", desk.subs));
+            }
+            if !desk.pubs.is_empty() {
+                lines.push(format!("pubs {}", desk.pubs));
+            }
             if desk.pending.len() + desk.seen.len() > 0 {
                 lines.push(format!("{} pending, {} seen", desk.pending.len(), desk.seen.len()));
             }
@@ -103,75 +109,150 @@ pub fn dot(network: &Network, table: &Table, message: Option<Message>) -> String
     text + "}\n"
 }
 
+/// Sizes in the picture.
 const RADIUS: f64 = 24.0;
-const MARGIN: f64 = 80.0;
+const LINE: f64 = 14.0;
+const MARGIN_X: f64 = 170.0;
+const MARGIN_Y: f64 = 80.0;
+const FOOT: f64 = 30.0;
 
-/// Where each of so many peers is drawn: on a circle, the first at the top. Also the side of the whole square.
-fn circle(number: usize) -> (Vec<(f64, f64)>, f64) {
-    let wide = if number < 2 { 0.0 } else { (number as f64 * 4.0 * RADIUS / TAU).max(100.0) };
-    let middle = wide.max(60.0) + MARGIN;
-    let place = |turn: usize| {
-        let angle = TAU * turn as f64 / number as f64;
-        (middle + wide * angle.sin(), middle - wide * angle.cos())
-    };
-    ((0..number).map(place).collect(), 2.0 * middle)
+/// Where something is drawn; the middle of the picture is 0, 0.
+#[derive(Clone, Copy)]
+struct Place {
+    x: f64,
+    y: f64,
+}
+
+/// How far the peers are from the middle.
+fn ring(peers: usize) -> f64 {
+    match peers {
+        0 | 1 => 0.0,
+        _ => (peers as f64 * 2.5 * RADIUS / TAU).max(80.0),
+    }
+}
+
+/// The place of one of so many peers: on a circle, the first at the top.
+fn place(turn: usize, peers: usize) -> Place {
+    let angle = TAU * turn as f64 / peers as f64;
+    // In tenths, so that a picture is the same on every machine; + 0.0 makes 0 of -0.
+    let tenths = |length: f64| (length * 10.0).round() / 10.0 + 0.0;
+    Place { x: tenths(ring(peers) * angle.sin()), y: tenths(-ring(peers) * angle.cos()) }
 }
 
 /// The network as an SVG picture.
 pub fn svg(network: &Network, table: &Table, message: Option<Message>) -> String {
     let nodes = nodes(network, table, message);
-    let (places, side) = circle(nodes.len());
-    let place_of = |peer: Peer| nodes.iter().position(|node| node.peer == peer).map(|place| places[place]);
+    let place_of = |peer: Peer| {
+        let turn = nodes.iter().position(|node| node.peer == peer).expect("both ends of a link are present");
+        place(turn, nodes.len())
+    };
     let title = title(network, table, message);
-    let width = side.max(440.0);
-    let shift = (width - side) / 2.0;
-    let mut text = String::new();
-    let _ = writeln!(
-        text,
-        "<svg xmlns=\"http://www.w3.org/2000/svg\" viewBox=\"{:.0} 0 {width:.0} {:.0}\" width=\"{width:.0}\" \
-         height=\"{:.0}\" font-family=\"sans-serif\" font-size=\"12\" text-anchor=\"middle\">",
-        -shift,
-        side + 50.0,
-        side + 50.0
-    );
-    let _ = writeln!(text, "<title>{title}</title>");
-    let _ = writeln!(
-        text,
-        "<rect x=\"{:.0}\" width=\"{width:.0}\" height=\"{:.0}\" fill=\"#ffffff\"/>",
-        -shift,
-        side + 50.0
-    );
+    let (left, top) = (ring(nodes.len()) + MARGIN_X, ring(nodes.len()) + MARGIN_Y);
+    let mut text = opening(left, top, &title);
     for (one, other) in links(network) {
-        if let (Some((x1, y1)), Some((x2, y2))) = (place_of(one), place_of(other)) {
-            let _ = writeln!(
-                text,
-                "<line x1=\"{x1:.1}\" y1=\"{y1:.1}\" x2=\"{x2:.1}\" y2=\"{y2:.1}\" stroke=\"#666666\" stroke-width=\"2\"/>"
-            );
-        }
+        text += &line(place_of(one), place_of(other));
     }
-    for (node, &place) in nodes.iter().zip(&places) {
-        text += &drawn(node, place);
+    for (turn, node) in nodes.iter().enumerate() {
+        text += &drawn(node, place(turn, nodes.len()));
     }
-    let _ = writeln!(text, "<text x=\"{:.0}\" y=\"{:.0}\" font-size=\"14\">{title}</text>", side / 2.0, side + 20.0);
+    text += &words_at(Place { x: 0.0, y: top + FOOT / 2.0 }, "middle", &title);
     text + "</svg>\n"
 }
 
-/// A peer: a circle with its number, and its lines below.
-fn drawn(node: &Node, (x, y): (f64, f64)) -> String {
-    let mut text = String::new();
-    let (peer, colour) = (node.peer, node.colour);
-    let _ = writeln!(
-        text,
-        "<circle cx=\"{x:.1}\" cy=\"{y:.1}\" r=\"{RADIUS:.0}\" fill=\"{colour}\" stroke=\"#333333\" stroke-width=\"2\"/>"
+/// The picture's frame, background and title.
+fn opening(left: f64, top: f64, title: &str) -> String {
+    let (width, height) = (2.0 * left, 2.0 * top + FOOT);
+    format!(
+        "<svg xmlns=\"http://www.w3.org/2000/svg\" viewBox=\"{:.0} {:.0} {width:.0} {height:.0}\" width=\"{width:.0}\" \
+         height=\"{height:.0}\" font-family=\"sans-serif\" font-size=\"12\">\n\
+         <title>{title}</title>\n\
+         <rect x=\"{:.0}\" y=\"{:.0}\" width=\"{width:.0}\" height=\"{height:.0}\" fill=\"#ffffff\"/>\n",
+        -left, -top, -left, -top
+    )
+}
+
+fn line(from: Place, to: Place) -> String {
+    format!(
+        "<line x1=\"{:.1}\" y1=\"{:.1}\" x2=\"{:.1}\" y2=\"{:.1}\" stroke=\"#666666\" stroke-width=\"2\"/>\n",
+        from.x, from.y, to.x, to.y
+    )
+}
+
+fn words_at(at: Place, anchor: &str, words: &str) -> String {
+    format!("<text x=\"{:.1}\" y=\"{:.1}\" text-anchor=\"{anchor}\">{words}</text>\n", at.x, at.y)
+}
+
+/// Where lines of so much height stand beside a peer: left end, middle or right end, their top, and which of the three.
+fn beside(at: Place, height: f64) -> (f64, f64, &'static str) {
+    let far = at.x.hypot(at.y);
+    let (out_x, out_y) = if far > 0.0 { (at.x / far, at.y / far) } else { (0.0, 1.0) };
+    let anchor = match out_x {
+        x if x > 0.1 => "start",
+        x if x < -0.1 => "end",
+        _ => "middle",
+    };
+    (at.x + out_x * (RADIUS + 8.0), at.y + out_y * (RADIUS + 8.0) + height * (out_y - 1.0) / 2.0, anchor)
+}
+
+/// A peer: a circle with its number, and its lines on the side that looks away from the middle.
+fn drawn(node: &Node, at: Place) -> String {
+    let mut text = format!(
+        "<circle cx=\"{:.1}\" cy=\"{:.1}\" r=\"{RADIUS:.0}\" fill=\"{}\" stroke=\"#333333\" stroke-width=\"2\"/>\n\
+         <text x=\"{:.1}\" y=\"{:.1}\" text-anchor=\"middle\" font-size=\"18\" font-weight=\"bold\">{}</text>\n",
+        at.x,
+        at.y,
+        node.colour,
+        at.x,
+        at.y + 6.0,
+        node.peer
     );
-    let _ =
-        writeln!(text, "<text x=\"{x:.1}\" y=\"{:.1}\" font-size=\"18\" font-weight=\"bold\">{peer}</text>", y + 6.0);
-    for (place, line) in node.lines.iter().enumerate() {
-        let below = y + RADIUS + 14.0 * (place + 1) as f64;
-        let _ = writeln!(
-            text,
-            "<text x=\"{x:.1}\" y=\"{below:.1}\" stroke=\"#ffffff\" stroke-width=\"4\" paint-order=\"stroke\">{line}</text>"
-        );
+    let (x, first, anchor) = beside(at, LINE * node.lines.len() as f64);
+    for (place, words) in node.lines.iter().enumerate() {
+        text += &words_at(Place { x, y: first + LINE * (place + 1) as f64 - 3.0 }, anchor, words);
     }
     text
+}
+
+#[cfg(test)]
+mod tests {
+    use super::*;
+    use relay_host::{Event, Number};
+
+    fn square() -> Network {
+        let mut network = Network::blank();
+        let lines =
+            ["join 0 pubs 0", "join 7 subs 0 neighbours 0", "join 9 neighbours 0", "join 31 subs 0 neighbours 7,9"];
+        for line in lines.iter().chain(&["produce 0 5", "forward 0 5"]) {
+            network.apply(&Table::zero(), &line.parse::<Event>().unwrap()).unwrap();
+        }
+        network
+    }
+
+    #[test]
+    fn every_peer_and_link_is_drawn_once() {
+        let svg = svg(&square(), &Table::zero(), None);
+        assert_eq!((svg.matches("<circle").count(), svg.matches("<line").count()), (4, 4));
+        let dot = dot(&square(), &Table::zero(), None);
+        assert_eq!((dot.matches("fillcolor").count(), dot.matches(" -- ").count()), (4, 4));
+    }
+
+    #[test]
+    fn a_message_colours_the_peers() {
+        let dot = dot(&square(), &Table::zero(), Message::new(5));
+        for line in [
+            "label=\"message 5 (topic 0, origin 0): pending at 7, seen by 0\";",
+            "0 [label=\"0\\nhas seen it\", fillcolor=\"#93c47d\"];",
+            "7 [label=\"7\\nholds it\", fillcolor=\"#f6b26b\"];",
+            "9 [label=\"9\\nnot subscribed\", fillcolor=\"#d9d9d9\"];",
+            "31 [label=\"31\\nsubscribes\", fillcolor=\"#ffffff\"];",
+        ] {
+            assert!(dot.contains(line), "{line} in {dot}");
+        }
+    }
+
+    #[test]
+    fn a_blank_network_is_a_picture_too() {
+        let svg = svg(&Network::blank(), &Table::zero(), None);
+        assert!(svg.contains("0 peers present, nothing pending") && !svg.contains("NaN"));
+    }
 }

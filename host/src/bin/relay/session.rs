@@ -182,9 +182,11 @@ impl Session {
         let Some(refusal) = run.refusal else {
             return Ok(writeln!(out, "{file}: {}", words::events(run.accepted))?);
         };
-        let record = records[run.accepted * RECORD..].first_chunk();
-        let said = match record.map(Event::decode) {
-            Some(Ok(event)) => words::refused(&self.network, &self.table, &event, &refusal),
+        let said = match records[run.accepted * RECORD..].first_chunk() {
+            Some(record) if refusal.reason.place_of() == Some("event") => match Event::decode(record) {
+                Ok(event) => words::refused(&self.network, &self.table, &event, &refusal),
+                Err(_) => format!("refused: {refusal}; its bytes are {}", words::bytes(record)),
+            },
             _ => format!("refused: {refusal}"),
         };
         Err(Trouble::Refused(format!("{file}: {said}")))

@@ -33,7 +33,7 @@ pub fn peers(number: usize) -> String {
 
 pub fn tally(tally: &Tally) -> String {
     let forwards = count(tally.forwards, "forward");
-    format!("tally: {} produced, {forwards}, {}", tally.produced, count(tally.deliveries, "delivery"))
+    format!("tally of the events: {} produced, {forwards}, {}", tally.produced, count(tally.deliveries, "delivery"))
 }
 
 pub fn accepted(event: &Event, tally: &Tally) -> String {
@@ -48,6 +48,12 @@ pub fn drained(budget: u32, drained: &Drained) -> String {
     let rounds = count(drained.rounds.into(), "round");
     let end = if drained.quiet { "nothing is pending" } else { "something is still pending" };
     format!("drain {budget}: {forwards}, {rounds}, {end}")
+}
+
+/// Bytes as pairs of hexadecimal digits.
+pub fn bytes(bytes: &[u8]) -> String {
+    let pairs: Vec<String> = bytes.iter().map(|byte| format!("{byte:02x}")).collect();
+    pairs.join(" ")
 }
 
 /// Who has a message.
@@ -70,7 +76,7 @@ fn having(holding: Set<Peer>, seen: Set<Peer>) -> String {
 pub fn refused(network: &Network, table: &Table, event: &Event, refusal: &Refusal) -> String {
     let said = format!("{event} is refused: {refusal}");
     match because(network, table, event, refusal.reason) {
-        Some(detail) => format!("{said}: {detail}"),
+        Some(detail) => format!("{said}; {detail}"),
         None => said,
     }
 }
@@ -112,6 +118,6 @@ mod tests {
         assert_eq!(summary(1, 0), "done: 1 event accepted, nothing pending");
         assert_eq!(summary(2, 1), "done: 2 events accepted, 1 pair pending");
         let counts = Tally { produced: 1, forwards: 0, deliveries: 2 };
-        assert_eq!(tally(&counts), "tally: 1 produced, 0 forwards, 2 deliveries");
+        assert_eq!(tally(&counts), "tally of the events: 1 produced, 0 forwards, 2 deliveries");
     }
 }

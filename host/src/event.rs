@@ -136,10 +136,11 @@ fn write_set<N: Number>(out: &mut fmt::Formatter, keyword: &str, set: Set<N>) ->
 /// The events of a record file, up to the first record that is none: refused by 3, then by 6 or 7.
 pub fn decode_all(records: &[u8]) -> (Vec<Event>, Option<Refusal>) {
     let mut events = Vec::new();
-    if records.len() % RECORD != 0 {
+    let whole = records.chunks_exact(RECORD);
+    if !whole.remainder().is_empty() {
         return (events, Some(Refusal { reason: Reason::EventsLength, place: 0 }));
     }
-    for (place, record) in records.chunks_exact(RECORD).enumerate() {
+    for (place, record) in whole.enumerate() {
         match Event::decode(record.try_into().expect("sixteen bytes")) {
             Ok(event) => events.push(event),
             Err(reason) => return (events, Some(Refusal { reason, place })),

@@ -84,6 +84,9 @@ fn damaged_records_of_a10() {
     }
 }
 
+/// State, table and events, and the number and place that refuse them.
+type Case<'a> = (&'a [u8], &'a [u8], &'a [u8], u8, usize);
+
 #[test]
 fn wrong_lengths_and_damage_are_refused_and_nothing_is_written() {
     let (network, _) = after(&[&H[..], &["produce 0 5"]].concat());
@@ -93,7 +96,7 @@ fn wrong_lengths_and_damage_are_refused_and_nothing_is_written() {
     let mut row = [0; 256];
     row[4 * 9 + 2] = 1;
     let sound = network.bytes();
-    let cases: [(&[u8], &[u8], &[u8], u8, usize); 6] = [
+    let cases: [Case; 6] = [
         (&sound[1..], &[0; 255], &[0; 15], 1, 0),
         (sound, &[0; 257], &[0; 15], 2, 0),
         (sound, &row, &[0; 15], 3, 0),

@@ -15,7 +15,7 @@
 #include <string.h>
 
 enum { RUN, FORWARD, DRAIN, IMAGE, CHECK, COPY, FUNCTIONS };
-enum { HEAD = 64, LENGTHS = 8, TALLY = 32, BUFFERS = 3 };
+enum { HEAD = 64, LENGTHS = 8, TALLY = 32, BUFFERS = 3, ROOM = 1 << 16 };
 
 struct call {
     uint8_t head[HEAD];
@@ -112,6 +112,8 @@ int main(void)
 {
     struct call call;
     uint8_t head[HEAD];
+    setvbuf(stdin, NULL, _IOFBF, ROOM);
+    setvbuf(stdout, NULL, _IOFBF, ROOM);
     while (read_call(&call)) {
         answer(&call, head);
         fwrite(head, 1, HEAD, stdout);

@@ -5,7 +5,7 @@
 //! process of it (`bridge.c`), which the crate talks to instead (`src/bridge.rs`).
 
 use std::path::{Path, PathBuf};
-use std::process::Command;
+use std::process::{exit, Command};
 use std::{env, fs};
 
 fn main() {
@@ -18,12 +18,11 @@ fn main() {
     println!("cargo:rerun-if-env-changed=RELAY_ENGINE_DIR");
     println!("cargo:rerun-if-changed={}", library.display());
     println!("cargo:rustc-check-cfg=cfg(bridged)");
-    let bytes = fs::read(&library).unwrap_or_else(|error| {
-        panic!(
-            "\n\n  no engine at {}: {error}\n  `rt staticlib engine` makes it; RELAY_ENGINE_DIR names another folder.\n",
-            library.display()
-        )
-    });
+    let Ok(bytes) = fs::read(&library) else {
+        eprintln!("no engine at {}", library.display());
+        eprintln!("`rt staticlib engine` makes it; RELAY_ENGINE_DIR names another folder.");
+        exit(1);
+    };
     let processor = processor(&bytes);
     if processor == Some(setting("CARGO_CFG_TARGET_ARCH").as_str()) {
         let folder = fs::canonicalize(&folder).expect("the folder of the engine has a full path");

@@ -66,10 +66,11 @@ fn start() -> io::Result<Engine> {
 
 impl Engine {
     fn call(&mut self, function: Function, arguments: &Arguments, lent: &mut [Lent]) -> io::Result<[u8; HEAD]> {
-        self.calls.write_all(&call_head(function, arguments, lent))?;
+        let mut call = call_head(function, arguments, lent).to_vec();
         for buffer in lent.iter() {
-            self.calls.write_all(buffer.bytes())?;
+            call.extend(buffer.bytes());
         }
+        self.calls.write_all(&call)?;
         self.calls.flush()?;
         let mut head = [0; HEAD];
         self.answers.read_exact(&mut head)?;

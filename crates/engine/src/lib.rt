@@ -31,6 +31,16 @@ pub struct Forwarded {
     pub deliveries: u32,
 }
 
+// The answer of a drain: a refusal and its place, or the forwards made, the rounds finished and whether nothing is pending.
+#[repr(C)]
+pub struct Drained {
+    pub number: u8,
+    pub place: usize,
+    pub forwards: u32,
+    pub rounds: u32,
+    pub quiet: bool,
+}
+
 // The answer of an entry point that only reads or writes: 0, or a refusal and its place.
 #[repr(C)]
 pub struct Checked {

@@ -11,3 +11,4 @@ pub mod StartLaws
 pub mod AloneLaws
 pub mod TurnLaws
 pub mod Looping
+pub mod RunEnds

@@ -8,6 +8,7 @@ ghost use Rattle.engine.specs.Run.{tally, refusedBy, turnOf, runAll, Run
 ghost use Rattle.engine.specs.RunSound.{ReadFits};
 
 use crate::counts;
+use crate::start;
 use crate::Answer;
 use crate::Ran;
 use events::Read;
@@ -139,4 +140,33 @@ pub(crate) fn run_events(
             known,
         },
     }
+}
+
+// The run on bytes: refused before any event with everything untouched, or the events are run and the state is written. The three
+// counts are the host's own, lent one by one.
+pub(crate) fn run_core(
+    state: &mut [u8],
+    table: &[u8],
+    events: &[u8],
+    produced: &mut u64,
+    forwards: &mut u64,
+    deliveries: &mut u64,
+) -> Answer
+    ensures { λ r. ⌜ Ends r (now (state .exit)) (tally (now (produced .exit)) (now (forwards .exit)) (now (deliveries .exit))) (runOf (now (state .entry)) (now (table .entry)) (now (events .entry)) (tally (now (produced .entry)) (now (forwards .entry)) (now (deliveries .entry)))) ⌝ }
+{
+    let begun = start::begin(&*state, table, events.len());
+    if begun.number != 0 {
+        return Answer {
+            number: begun.number,
+            place: begun.place,
+            accepted: 0,
+        };
+    }
+    let n = begun.network;
+    let rows = begun.table;
+    let ran = run_events(n, rows, events, &mut *produced, &mut *forwards, &mut *deliveries);
+    let last = ran.network;
+    let answer = ran.answer;
+    network::put(last, &mut *state);
+    answer
 }

@@ -1,0 +1,193 @@
+//! The model tested alone: A1 to A12 of 01's proved table, 01's example of the run program, the fixed
+//! limits, and then 01's and 00's general statements on seeded networks (properties.rs).
+
+#[allow(dead_code)]
+mod inputs;
+mod model;
+mod properties;
+
+use model::calls::{check, copy, drain, forward, image, run};
+use model::program::output;
+use model::state::{Network, Peer};
+use model::{Answer, Checked, Drained, Forwarded, Tally};
+
+type Bytes = [u8; 16];
+
+const SKIP: Bytes = [0; 16];
+
+fn join(peer: u8, subs: u8, pubs: u8, neighbours: u8) -> Bytes {
+    [6, peer, 0, 0, subs, 0, 0, 0, pubs, 0, 0, 0, neighbours, 0, 0, 0]
+}
+
+fn with_message(code: u8, peer: u8, message: u8) -> Bytes {
+    let mut bytes = SKIP;
+    bytes[..3].copy_from_slice(&[code, peer, message]);
+    bytes
+}
+
+fn produce(peer: u8, message: u8) -> Bytes {
+    with_message(1, peer, message)
+}
+
+fn forward_event(peer: u8, message: u8) -> Bytes {
+    with_message(2, peer, message)
+}
+
+fn leave(peer: u8) -> Bytes {
+    with_message(5, peer, 0)
+}
+
+/// "H: blank network, then join 0 (pubs {0}), join 1 (subs {0}, neighbours {0}), join 2 (subs {0},
+/// neighbours {1})."
+fn after_h(more: &[Bytes]) -> Vec<Bytes> {
+    let mut events = vec![join(0, 0, 1, 0), join(1, 1, 0, 1), join(2, 1, 0, 2)];
+    events.extend(more);
+    events
+}
+
+/// Runs the events from the blank network. "All message rows zero."
+fn outcome(events: &[Bytes]) -> (Answer, Vec<u8>, Tally) {
+    let mut state = vec![0; 5120];
+    let mut tally = Tally { produced: 7, forwards: 7, deliveries: 7 };
+    let answer = run(&mut state, &[0; 256], &events.concat(), &mut tally);
+    (answer, state, tally)
+}
+
+fn answer(number: u8, place: usize, accepted: usize) -> Answer {
+    Answer { number, place, accepted }
+}
+
+fn image_bytes(state: &[u8]) -> Vec<u8> {
+    let mut bytes = vec![9; 5120];
+    assert_eq!(image(state, &mut bytes), Checked { number: 0, place: 0 });
+    bytes
+}
+
+fn expect(name: &str, events: &[Bytes], expected: Answer) -> Vec<u8> {
+    let (found, state, _) = outcome(events);
+    assert_eq!(found, expected, "{name}");
+    state
+}
+
+fn proved_table() {
+    let state_h = expect("H", &after_h(&[]), answer(0, 0, 3));
+    expect("A1", &[], answer(0, 0, 0));
+    let state = expect("A2", &after_h(&[produce(0, 5)]), answer(0, 0, 4));
+    assert_eq!(image_bytes(&state), image_bytes(&state_h), "A2: image as after H");
+    assert_ne!(state, state_h, "A2: the state itself has changed");
+    expect("A3", &after_h(&[produce(0, 5), produce(0, 5)]), answer(12, 4, 4));
+    expect("A4", &after_h(&[produce(1, 5)]), answer(10, 3, 3));
+    expect("A5", &after_h(&[forward_event(0, 5)]), answer(13, 3, 3));
+    expect("A6", &after_h(&[produce(0, 5), leave(0)]), answer(14, 4, 4));
+    let a7 = after_h(&[produce(0, 5), forward_event(0, 5), leave(0)]);
+    let state = expect("A7", &a7, answer(0, 0, 6));
+    let neighbours = Network::parse(&state).at(Peer(1)).neighbours.clone();
+    assert_eq!(neighbours, [Peer(2)].into(), "A7: peer 1's neighbours {{2}}");
+    let a8 = [a7, vec![join(0, 0, 1, 0), produce(0, 5)]].concat();
+    expect("A8", &a8, answer(12, 7, 7));
+    expect("A9", &after_h(&[join(3, 0, 0, 0b11000)]), answer(15, 3, 3));
+    expect("A9", &after_h(&[join(3, 0, 0, 0b10000)]), answer(16, 3, 3));
+    expect("A10", &after_h(&[with_message(7, 0, 0)]), answer(6, 3, 3));
+    expect("A10", &after_h(&[with_message(0, 32, 0)]), answer(7, 3, 3));
+    expect("A10", &after_h(&[forward_event(0, 64)]), answer(7, 3, 3));
+    let produced = expect("A11", &after_h(&[produce(0, 5)]), answer(0, 0, 4));
+    for (budget, forwards, rounds, quiet) in [(2048, 3, 3, true), (2, 2, 2, false), (0, 0, 0, false)] {
+        let found = drain(&mut produced.clone(), &[0; 256], budget);
+        assert_eq!(found, Drained { number: 0, place: 0, forwards, rounds, quiet }, "A11");
+    }
+    let once = [join(0, 0, 1, 0), produce(0, 5), forward_event(0, 5), leave(0)];
+    let a12 = [&once[..], &[join(0, 0, 1, 0), produce(0, 5)]].concat();
+    expect("A12", &a12, answer(0, 0, 6));
+    println!("A1 to A12: as in the table");
+}
+
+/// "For blank, a zero table, and H, produce 0/5, forward 0/5, forward 1/5"
+fn example() {
+    let events = after_h(&[produce(0, 5), forward_event(0, 5), forward_event(1, 5)]);
+    let mut input = vec![0; 5376];
+    input.extend(events.concat());
+    let text = "FLOOD 0 0 6\nPEER 0 0 0 1\nPEER 1 1 0 1\nPEER 2 1 1 0\n";
+    assert_eq!(String::from_utf8(output(&input).1).expect("text"), text);
+    let (_, _, tally) = outcome(&events);
+    assert_eq!(tally, Tally { produced: 1, forwards: 2, deliveries: 2 });
+    println!("the example of the run program: as printed in 01");
+}
+
+fn limits_of_the_program() {
+    let first_line = |input: Vec<u8>| String::from_utf8(output(&input).1).expect("text");
+    assert_eq!(first_line(vec![]), "FLOOD 1 0 0\n");
+    assert_eq!(first_line(vec![0; 5119]), "FLOOD 1 0 0\n");
+    assert_eq!(first_line(vec![0; 5120]), "FLOOD 2 0 0\n");
+    assert_eq!(first_line(vec![0; 5375]), "FLOOD 2 0 0\n");
+    assert_eq!(first_line(vec![0; 5376]), "FLOOD 0 0 0\n");
+    assert_eq!(first_line(vec![0; 5377]), "FLOOD 3 0 0\n");
+    assert_eq!(first_line(vec![0; 65_536]), "FLOOD 0 0 3760\n");
+    assert_eq!(first_line(vec![0; 65_537]), "FLOOD 17 0 0\n");
+    assert_eq!(first_line(vec![255; 65_536]), "FLOOD 4 0 0\n");
+    let mut refused = vec![0; 5376];
+    refused.extend(after_h(&[forward_event(1, 5)]).concat());
+    let text = "FLOOD 13 3 3\nPEER 0 0 0 0\nPEER 1 1 0 0\nPEER 2 1 0 0\n";
+    assert_eq!(first_line(refused), text, "the state is shown after a refused event");
+    println!("the limits of the run program: as in 01");
+}
+
+/// Each refusal of lent bytes is answered alone and in 01's order, and touches nothing.
+fn refusals_in_order() {
+    let good = outcome(&after_h(&[produce(0, 5)])).1;
+    let mut unsound = good.clone();
+    unsound[160 + 12] = 0;
+    let (mut bad_row, zero_row) = ([0; 256], [0; 256]);
+    bad_row[4 * 63 + 1] = 32;
+    let before = Tally { produced: 1, forwards: 2, deliveries: 3 };
+    let try_run = |state: &[u8], table: &[u8], events: &[u8]| {
+        let (mut lent, mut tally) = (state.to_vec(), before);
+        let found = run(&mut lent, table, events, &mut tally);
+        assert!(lent == state && tally == before, "untouched");
+        assert_eq!(found.accepted, 0);
+        (found.number, found.place)
+    };
+    assert_eq!(try_run(&unsound[1..], &bad_row[1..], &[0; 15]), (1, 0));
+    assert_eq!(try_run(&unsound, &bad_row[1..], &[0; 15]), (2, 0));
+    assert_eq!(try_run(&unsound, &bad_row, &[0; 15]), (3, 0));
+    assert_eq!(try_run(&unsound, &bad_row, &[9; 16]), (4, 63));
+    // Record 1 lists nobody now: its known subscribers are wrong, but record 0 lists it and is the lowest.
+    assert_eq!(try_run(&unsound, &zero_row, &[9; 16]), (5, 0));
+    let try_forward = |state: &[u8], table: &[u8], peer, message| {
+        let mut lent = state.to_vec();
+        let Forwarded { number, place, deliveries } = forward(&mut lent, table, peer, message);
+        assert!(lent == state && deliveries == 0, "untouched");
+        (number, place)
+    };
+    assert_eq!(try_forward(&unsound[1..], &bad_row[1..], 32, 64), (1, 0));
+    assert_eq!(try_forward(&unsound, &bad_row[1..], 32, 64), (2, 0));
+    assert_eq!(try_forward(&unsound, &bad_row, 32, 64), (4, 63));
+    assert_eq!(try_forward(&unsound, &zero_row, 32, 64), (5, 0));
+    assert_eq!(try_forward(&good, &zero_row, 32, 5), (7, 0));
+    assert_eq!(try_forward(&good, &zero_row, 3, 64), (7, 0));
+    assert_eq!(try_forward(&good, &zero_row, 3, 5), (8, 0));
+    assert_eq!(try_forward(&good, &zero_row, 1, 5), (13, 0));
+    let done = forward(&mut good.clone(), &zero_row, 0, 5);
+    assert_eq!(done, Forwarded { number: 0, place: 0, deliveries: 1 });
+    let untouched = |number, place, call: &dyn Fn(&mut [u8]) -> Checked, length: usize| {
+        let mut lent = vec![7; length];
+        assert_eq!(call(&mut lent), Checked { number, place });
+        assert!(lent.iter().all(|byte| *byte == 7), "untouched");
+    };
+    untouched(1, 0, &|lent| image(&unsound[1..], lent), 5119);
+    untouched(5, 0, &|lent| image(&unsound, lent), 5119);
+    untouched(18, 0, &|lent| image(&good, lent), 5119);
+    untouched(1, 0, &|lent| copy(&unsound[1..], lent), 5120);
+    untouched(5, 0, &|lent| copy(&unsound, lent), 5119);
+    untouched(1, 0, &|lent| copy(&good, lent), 5121);
+    assert_eq!(check(&good), Checked { number: 0, place: 0 });
+    println!("refusals of lent bytes: in 01's order, buffers untouched");
+}
+
+fn main() {
+    proved_table();
+    example();
+    limits_of_the_program();
+    refusals_in_order();
+    properties::all();
+    println!("selftest: all passed");
+}

@@ -1,0 +1,97 @@
+//! A stand-in for the engine's static library: the same C functions, done by the model. It tries the
+//! comparison's own machinery and carries the planted slips of mutants.sh; it is no part of the gate.
+
+mod model;
+
+use model::{calls, Answer, Checked, Drained, Forwarded, Tally};
+use std::slice::{from_raw_parts, from_raw_parts_mut};
+
+#[repr(C)]
+pub struct CTally(u64, u64, u64);
+#[repr(C)]
+pub struct CAnswer(u8, usize, usize);
+#[repr(C)]
+pub struct CForwarded(u8, usize, u32);
+#[repr(C)]
+pub struct CDrained(u8, usize, u32, u32, bool);
+#[repr(C)]
+pub struct CChecked(u8, usize);
+
+fn checked(answer: Checked) -> CChecked {
+    CChecked(answer.number, answer.place)
+}
+
+#[no_mangle]
+pub unsafe extern "C" fn relay_run(
+    state: *mut u8,
+    state_length: usize,
+    table: *const u8,
+    table_length: usize,
+    events: *const u8,
+    events_length: usize,
+    tally: *mut CTally,
+) -> CAnswer {
+    let state = from_raw_parts_mut(state, state_length);
+    let table = from_raw_parts(table, table_length);
+    let events = from_raw_parts(events, events_length);
+    let mut own = Tally { produced: (*tally).0, forwards: (*tally).1, deliveries: (*tally).2 };
+    let Answer { number, place, accepted } = calls::run(state, table, events, &mut own);
+    *tally = CTally(own.produced, own.forwards, own.deliveries);
+    CAnswer(number, place, accepted)
+}
+
+#[no_mangle]
+pub unsafe extern "C" fn relay_forward(
+    state: *mut u8,
+    state_length: usize,
+    table: *const u8,
+    table_length: usize,
+    peer: u8,
+    message: u8,
+) -> CForwarded {
+    let state = from_raw_parts_mut(state, state_length);
+    let table = from_raw_parts(table, table_length);
+    let Forwarded { number, place, deliveries } = calls::forward(state, table, peer, message);
+    CForwarded(number, place, deliveries)
+}
+
+#[no_mangle]
+pub unsafe extern "C" fn relay_drain(
+    state: *mut u8,
+    state_length: usize,
+    table: *const u8,
+    table_length: usize,
+    budget: u32,
+) -> CDrained {
+    let state = from_raw_parts_mut(state, state_length);
+    let table = from_raw_parts(table, table_length);
+    let Drained { number, place, forwards, rounds, quiet } = calls::drain(state, table, budget);
+    CDrained(number, place, forwards, rounds, quiet)
+}
+
+#[no_mangle]
+pub unsafe extern "C" fn relay_image(
+    state: *const u8,
+    state_length: usize,
+    image: *mut u8,
+    image_length: usize,
+) -> CChecked {
+    let state = from_raw_parts(state, state_length);
+    checked(calls::image(state, from_raw_parts_mut(image, image_length)))
+}
+
+#[no_mangle]
+pub unsafe extern "C" fn relay_check(state: *const u8, state_length: usize) -> CChecked {
+    checked(calls::check(from_raw_parts(state, state_length)))
+}
+
+#[no_mangle]
+pub unsafe extern "C" fn relay_copy(
+    from: *const u8,
+    from_length: usize,
+    to: *mut u8,
+    to_length: usize,
+) -> CChecked {
+    let from = from_raw_parts(from, from_length);
+    checked(calls::copy(from, from_raw_parts_mut(to, to_length)))
+}

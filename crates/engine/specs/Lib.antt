@@ -11,3 +11,6 @@ pub mod StartLaws
 pub mod AloneLaws
 pub mod TurnLaws
 pub mod Looping
+pub mod Draining
+pub mod DrainingLaws
+pub mod DrainingReach

@@ -27,38 +27,39 @@ use Rattle.engine.specs.Draining.{drained, drainEndOf}
 -- ---- what it begins with
 
 module _ (s t : List ℕ) where
-  -- either it is refused by some number above 0, or the state has 5,120 bytes and both were read
-  begun-either : (P : Begun → Type 0) → ((number place : ℕ) → 0 < number → P (refusedAt number place))
+  -- either it is refused, not by 3, or the state has 5,120 bytes and both were read
+  begun-either : (P : Begun → Type 0) → ((number place : ℕ) → 0 < number → (number ≡ 3 → ⊥) → P (refusedAt number place))
       → (length s ≡ 5120 → P (record { number = 0; place = 0; network = openOf s .network; table = listOf t .table })) → P (beginOf s t 0)
   unfolding beginOf
-  begun-either P refuses reads = go (eqb (length s) 5120) (eqb (length t) 256) (eqb (0 % 16) 0) (eqb (listOf t .number) 0) (eqb (openOf s .number) 0) refl
+  begun-either P refuses reads = go (eqb (length s) 5120) (eqb (length t) 256) (eqb (listOf t .number) 0) (eqb (openOf s .number) 0) refl
     where
-      go : (a b c d e : Bool) → eqb (length s) 5120 ≡ a
+      go : (a b c d : Bool) → eqb (length s) 5120 ≡ a
           → P (cond a
             (cond b
-            (cond c
-            (cond d (cond e (record { number = 0; place = 0; network = openOf s .network; table = listOf t .table }) (refusedAt 5 (openOf s .place))) (refusedAt 4 (listOf t .place)))
-            (refusedAt 3 0))
+            (cond c (cond d (record { number = 0; place = 0; network = openOf s .network; table = listOf t .table }) (refusedAt 5 (openOf s .place))) (refusedAt 4 (listOf t .place)))
             (refusedAt 2 0))
             (refusedAt 1 0))
-      go false b c d e h = refuses _ _ (omega arith)
-      go true false c d e h = refuses _ _ (omega arith)
-      go true true false d e h = refuses _ _ (omega arith)
-      go true true true false e h = refuses _ _ (omega arith)
-      go true true true true false h = refuses _ _ (omega arith)
-      go true true true true true h = reads (eqb-true _ _ h)
+      go false b c d h = refuses _ _ (omega arith) (λ z. omega (arith, z))
+      go true false c d h = refuses _ _ (omega arith) (λ z. omega (arith, z))
+      go true true false d h = refuses _ _ (omega arith) (λ z. omega (arith, z))
+      go true true true false h = refuses _ _ (omega arith) (λ z. omega (arith, z))
+      go true true true true h = reads (eqb-true _ _ h)
 
   -- the rows of the table are in range
   pub begun-rows : Rows (beginOf s t 0 .table)
-  begun-rows = begun-either (λ (g : Begun). Rows (g .table)) (λ k p l. blank-rows) (λ e. listed-rows t)
+  begun-rows = begun-either (λ (g : Begun). Rows (g .table)) (λ k p l o. blank-rows) (λ e. listed-rows t)
 
   -- the network is sound
   pub begun-sound : Bytes s → Sound (beginOf s t 0 .network)
-  begun-sound h = begun-either (λ (g : Begun). Sound (g .network)) (λ k p l. blank-sound) (λ e. opened-sound s h)
+  begun-sound h = begun-either (λ (g : Begun). Sound (g .network)) (λ k p l o. blank-sound) (λ e. opened-sound s h)
 
   -- an accepted state has 5,120 bytes
   long : beginOf s t 0 .number ≡ 0 → length s ≡ 5120
-  long = begun-either (λ (g : Begun). g .number ≡ 0 → length s ≡ 5120) (λ k p l z. absurd (omega (arith, l, z))) (λ e z. e)
+  long = begun-either (λ (g : Begun). g .number ≡ 0 → length s ≡ 5120) (λ k p l o z. absurd (omega (arith, l, z))) (λ e z. e)
+
+  -- "Refusals 1, 2, 4, 5": without events nothing is refused by 3
+  pub begun-never-3 : beginOf s t 0 .number ≡ 3 → ⊥
+  begun-never-3 = begun-either (λ (g : Begun). g .number ≡ 3 → ⊥) (λ k p l o. o) (λ e z. omega (arith, z))
 
   -- the same of what the code has read, as it asks for it
   module _ {g : Begun} (e : g ≡ beginOf s t 0) where

@@ -22,7 +22,7 @@ use Rattle.engine.specs.Draining.{drained, drainEndOf}
 use Rattle.engine.specs.DrainingLaws.{begun-rows, begun-sound}
 
 -- what the entry point makes of an accepted state and table, over the table b and the network n that they say
-pub record Drains (s t : List ℕ) (b : Table) (n : Network) : Type 0 where
+pub record DrainPage (s t : List ℕ) (b : Table) (n : Network) : Type 0 where
   -- demand 3, sentence by sentence, of n
   pub page : Reach b n
   -- its answer and its state are those of the drain that the page speaks of
@@ -40,9 +40,9 @@ module _ (s t : List ℕ) (h : Bytes s) where
   begun-reach = reach (begun-sound s t h) (begun-rows s t)
 
   -- THE THEOREM: every state and table that it accepts are drained as demand 3 says
-  pub drains-all : beginOf s t 0 .number ≡ 0 → Drains s t (beginOf s t 0 .table) (beginOf s t 0 .network)
+  pub drain-page : beginOf s t 0 .number ≡ 0 → DrainPage s t (beginOf s t 0 .table) (beginOf s t 0 .network)
   unfolding drainEndOf
-  drains-all z =
+  drain-page z =
       record {
         page = begun-reach;
         answers = λ budget. rw z;

@@ -19,15 +19,15 @@ pub record Drainage : Type 0 where
 abbrev pub drained : ℕ → ℕ → ℕ → ℕ → Bool → Drained
 drained number place forwards rounds quiet = record { number = number; place = place; forwards = forwards; rounds = rounds; quiet = quiet }
 
--- refused: "counts 0, not quiet, buffers untouched"
-abbrev pub noDrain : ℕ → ℕ → List ℕ → Drainage
-noDrain number place s = record { answer = drained number place 0 0 false; state = s }
+-- refused: "counts 0, not quiet"
+abbrev pub refusedDrain : ℕ → ℕ → Drained
+refusedDrain number place = drained number place 0 0 false
 
--- the drain of what was read, `drainOf` of the crate drain, or the refusal; without events nothing is refused by 3
+-- the drain of what was read, `drainOf` of the crate drain, or the refusal, "buffers untouched"; without events nothing is refused by 3
 unfoldable pub drainEndOf : List ℕ → List ℕ → ℕ → Drainage
 drainEndOf s t budget =
     let g = beginOf s t 0 in
     let d = drainOf (g .table) budget (g .network) in
     cond (eqb (g .number) 0)
     (record { answer = drained 0 0 (d .forwards) (d .rounds) (quietOf (d .end)); state = bytesOf (d .end) })
-    (noDrain (g .number) (g .place) s)
+    (record { answer = refusedDrain (g .number) (g .place); state = s })

@@ -1,8 +1,8 @@
 -- Laws of the drain as an entry point: what it begins with, and each way that it ends. Assumes nothing.
-use mathlib.Core.Path.{_≡_, refl, sym, ap, _∙_}
+use mathlib.Core.Path.{_≡_, refl}
 use mathlib.Core.Bool.{Bool, true, false, cond}
 use mathlib.Core.List.{List}
-use Prim.Native.Nat.{ℕ, _%_, _<_}
+use Prim.Native.Nat.{ℕ, _<_}
 use native.Mathlib.Omega.{arith}
 use lib.Dec.{eqb}
 use lib.ListN.{length, getD}
@@ -10,7 +10,6 @@ use borrow.Author.Tests.{eqb-true}
 use Rattle.sets.specs.Bools.{ne-eqb}
 use Rattle.endian.specs.Le.{Bytes}
 use Rattle.network.specs.declared.Network.{Network}
-use Rattle.network.specs.declared.Table.{Table}
 use Rattle.network.specs.Network.{mk, Rows}
 use Rattle.network.specs.Sound.{Sound}
 use Rattle.network.specs.State.{openOf, bytesOf}
@@ -22,7 +21,7 @@ use Rattle.drain.specs.Lent.{DrainsTo}
 use Rattle.engine.specs.declared.Begun.{Begun}
 use Rattle.engine.specs.declared.Drained.{Drained}
 use Rattle.engine.specs.Start.{refusedAt, beginOf}
-use Rattle.engine.specs.Draining.{drained, drainEndOf}
+use Rattle.engine.specs.Draining.{drained, refusedDrain, drainEndOf}
 
 -- ---- what it begins with
 
@@ -35,10 +34,10 @@ module _ (s t : List ℕ) where
     where
       go : (a b c d : Bool) → eqb (length s) 5120 ≡ a
           → P (cond a
-            (cond b
-            (cond c (cond d (record { number = 0; place = 0; network = openOf s .network; table = listOf t .table }) (refusedAt 5 (openOf s .place))) (refusedAt 4 (listOf t .place)))
-            (refusedAt 2 0))
-            (refusedAt 1 0))
+          (cond b
+          (cond c (cond d (record { number = 0; place = 0; network = openOf s .network; table = listOf t .table }) (refusedAt 5 (openOf s .place))) (refusedAt 4 (listOf t .place)))
+          (refusedAt 2 0))
+          (refusedAt 1 0))
       go false b c d h = refuses _ _ (omega arith) (λ z. omega (arith, z))
       go true false c d h = refuses _ _ (omega arith) (λ z. omega (arith, z))
       go true true false d h = refuses _ _ (omega arith) (λ z. omega (arith, z))
@@ -76,9 +75,9 @@ abbrev pub Ended : (s t : List ℕ) → ℕ → Drained → List ℕ → Type 0
 Ended s t budget r now-s = (r ≡ drainEndOf s t budget .answer) × (now-s ≡ drainEndOf s t budget .state)
 
 -- it is refused
-pub drain-refused : {g : Begun} (s t : List ℕ) (budget : ℕ) → g ≡ beginOf s t 0 → (g .number ≡ 0 → ⊥) → Ended s t budget (drained (g .number) (g .place) 0 0 false) s
+pub drain-refused : {g : Begun} {r : Drained} (s t : List ℕ) (budget : ℕ) → g ≡ beginOf s t 0 → (g .number ≡ 0 → ⊥) → r ≡ refusedDrain (g .number) (g .place) → Ended s t budget r s
 unfolding drainEndOf
-drain-refused {g} s t budget e h = (rw (← e, ne-eqb h), rw (← e, ne-eqb h))
+drain-refused {g} s t budget e h k = (rw (← e, ne-eqb h) k, rw (← e, ne-eqb h))
 
 -- it is drained
 pub drain-done : {g : Begun} {e f : List ℕ} {r : Drains} (s t now-s : List ℕ) (budget : ℕ) → Bytes s → g ≡ beginOf s t 0 → g .number ≡ 0

@@ -1,6 +1,6 @@
 -- DEMAND 3 FOR THE ENTRY POINT: the client's page (the crate drain's specs/Reach.antt) holds of what it drains, and its answer says what the page
 -- says of a drain. Assumes nothing.
-use mathlib.Core.Path.{_≡_, refl, sym, ap, _∙_}
+use mathlib.Core.Path.{_≡_}
 use mathlib.Core.Bool.{true}
 use mathlib.Core.List.{List}
 use Prim.Native.Nat.{ℕ, _≤_}

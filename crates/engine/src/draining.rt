@@ -1,10 +1,22 @@
 // The drain by rounds (document 01, "Drain by rounds").
 ghost use mathlib.Core.Path.{_≡_};
-ghost use Rattle.engine.specs.Draining.{drainEndOf};
-
-use crate::start;
+ghost use Rattle.engine.specs.Draining.{refusedDrain, drainEndOf};
 use crate::Drained;
+use crate::start;
 use network::Network;
+
+// Nothing was drained.
+fn refused(number: u8, place: usize) -> Drained
+    ensures { λ r. ⌜ r ≡ refusedDrain number place ⌝ }
+{
+    Drained {
+        number,
+        place,
+        forwards: 0,
+        rounds: 0,
+        quiet: false,
+    }
+}
 
 // Drains the state by rounds, within a budget of forwards: "it answers the forwards made, the rounds finished, and whether nothing
 // is pending". A refusal leaves the state untouched.
@@ -14,7 +26,7 @@ pub extern "C" fn relay_drain(state: &mut [u8], table: &[u8], budget: u32) -> Dr
 {
     let begun = start::begin(&*state, table, 0);
     if begun.number != 0 {
-        return Drained { number: begun.number, place: begun.place, forwards: 0, rounds: 0, quiet: false };
+        return refused(begun.number, begun.place);
     }
     let n = begun.network;
     let rows = begun.table;
@@ -27,7 +39,21 @@ pub extern "C" fn relay_drain(state: &mut [u8], table: &[u8], budget: u32) -> Dr
     let mut pending = n.pending;
     let mut seen = n.seen;
     let drains = drain::drain_all(&mut pending, &mut seen, &known, &topics, budget);
-    let last = Network { present, pubs, subs, neighbours, pending, seen, known };
+    let last = Network {
+        present,
+        pubs,
+        subs,
+        neighbours,
+        pending,
+        seen,
+        known,
+    };
     network::put(last, state);
-    Drained { number: 0, place: 0, forwards: drains.forwards, rounds: drains.rounds, quiet: drains.quiet }
+    Drained {
+        number: 0,
+        place: 0,
+        forwards: drains.forwards,
+        rounds: drains.rounds,
+        quiet: drains.quiet,
+    }
 }

@@ -11,11 +11,14 @@ accepted c = c .before .before .before .before .before .before .before .before .
 begin-requires : tie.Need-begin-requires
 begin-requires c κs = search needs
 
+refused-requires : tie.Need-refused-requires
+refused-requires c κs = search needs
+
 same-length : tie.Need-same-length
 same-length c = search needs
 
 returns : tie.Need-returns
-returns c = drain-refused _ _ _ (c .before .before .begin .ensures) (c .if1 .taken)
+returns c = let i = c .before in drain-refused _ _ _ (i .before .before .begin .ensures) (i .if1 .taken) (c .refused .ensures)
 
 drain-all-requires : tie.Need-drain-all-requires
 drain-all-requires c κs = begun-topics _ _ (accepted c .before .before .begin .ensures)
@@ -35,4 +38,4 @@ returns-2 c =
     drain-done _ _ _ _ (λ i. b .before .before .before .slice-known .given i .fits) (b .begin .ensures) (a .if1 .left) (d .drain-all .ensures) (p .put .ensures)
 
 pub relay-drain-spec : {M : Type 1} → statement M
-relay-drain-spec = tie.close (tie.spec begin-requires same-length returns drain-all-requires put-requires same-length-2 returns-2)
+relay-drain-spec = tie.close (tie.spec begin-requires refused-requires same-length returns drain-all-requires put-requires same-length-2 returns-2)

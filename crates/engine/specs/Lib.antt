@@ -12,3 +12,6 @@ pub mod AloneLaws
 pub mod TurnLaws
 pub mod Looping
 pub mod RunEnds
+pub mod Draining
+pub mod DrainingLaws
+pub mod DrainingReach

@@ -1,0 +1,90 @@
+-- Laws of the drain as an entry point: what it begins with, and each way that it ends. Assumes nothing.
+use mathlib.Core.Path.{_≡_, refl}
+use mathlib.Core.Bool.{Bool, true, false, cond}
+use mathlib.Core.List.{List}
+use Prim.Native.Nat.{ℕ, _<_}
+use native.Mathlib.Omega.{arith}
+use lib.Dec.{eqb}
+use lib.ListN.{length, getD}
+use borrow.Author.Tests.{eqb-true}
+use Rattle.sets.specs.Bools.{ne-eqb}
+use Rattle.endian.specs.Le.{Bytes}
+use Rattle.network.specs.declared.Network.{Network}
+use Rattle.network.specs.Network.{mk, Rows}
+use Rattle.network.specs.Sound.{Sound}
+use Rattle.network.specs.State.{openOf, bytesOf}
+use Rattle.network.specs.Rows.{listOf}
+use Rattle.network.specs.OpenedSound.{opened-sound, blank-sound}
+use Rattle.network.specs.Listing.{listed-rows, blank-rows}
+use Rattle.drain.specs.declared.Drains.{Drains}
+use Rattle.drain.specs.Lent.{DrainsTo}
+use Rattle.engine.specs.declared.Begun.{Begun}
+use Rattle.engine.specs.declared.Drained.{Drained}
+use Rattle.engine.specs.Start.{refusedAt, beginOf}
+use Rattle.engine.specs.Draining.{drained, refusedDrain, drainEndOf}
+
+-- ---- what it begins with
+
+module _ (s t : List ℕ) where
+  -- either it is refused, not by 3, or the state has 5,120 bytes and both were read
+  begun-either : (P : Begun → Type 0) → ((number place : ℕ) → 0 < number → (number ≡ 3 → ⊥) → P (refusedAt number place))
+      → (length s ≡ 5120 → P (record { number = 0; place = 0; network = openOf s .network; table = listOf t .table })) → P (beginOf s t 0)
+  unfolding beginOf
+  begun-either P refuses reads = go (eqb (length s) 5120) (eqb (length t) 256) (eqb (listOf t .number) 0) (eqb (openOf s .number) 0) refl
+    where
+      go : (a b c d : Bool) → eqb (length s) 5120 ≡ a
+          → P (cond a
+          (cond b
+          (cond c (cond d (record { number = 0; place = 0; network = openOf s .network; table = listOf t .table }) (refusedAt 5 (openOf s .place))) (refusedAt 4 (listOf t .place)))
+          (refusedAt 2 0))
+          (refusedAt 1 0))
+      go false b c d h = refuses _ _ (omega arith) (λ z. omega (arith, z))
+      go true false c d h = refuses _ _ (omega arith) (λ z. omega (arith, z))
+      go true true false d h = refuses _ _ (omega arith) (λ z. omega (arith, z))
+      go true true true false h = refuses _ _ (omega arith) (λ z. omega (arith, z))
+      go true true true true h = reads (eqb-true _ _ h)
+
+  -- the rows of the table are in range
+  pub begun-rows : Rows (beginOf s t 0 .table)
+  begun-rows = begun-either (λ (g : Begun). Rows (g .table)) (λ k p l o. blank-rows) (λ e. listed-rows t)
+
+  -- the network is sound
+  pub begun-sound : Bytes s → Sound (beginOf s t 0 .network)
+  begun-sound h = begun-either (λ (g : Begun). Sound (g .network)) (λ k p l o. blank-sound) (λ e. opened-sound s h)
+
+  -- an accepted state has 5,120 bytes
+  long : beginOf s t 0 .number ≡ 0 → length s ≡ 5120
+  long = begun-either (λ (g : Begun). g .number ≡ 0 → length s ≡ 5120) (λ k p l o z. absurd (omega (arith, l, z))) (λ e z. e)
+
+  -- "Refusals 1, 2, 4, 5": without events nothing is refused by 3
+  pub begun-never-3 : beginOf s t 0 .number ≡ 3 → ⊥
+  begun-never-3 = begun-either (λ (g : Begun). g .number ≡ 3 → ⊥) (λ k p l o. o) (λ e z. omega (arith, z))
+
+  -- the same of what the code has read, as it asks for it
+  module _ {g : Begun} (e : g ≡ beginOf s t 0) where
+    pub begun-topics : (i : ℕ) → getD (g .table .topics) i 0 < 32
+    begun-topics = rw e (begun-rows .topics-fit)
+
+    pub begun-long : g .number ≡ 0 → length s ≡ 5120
+    begun-long = rw e long
+
+-- ---- how it ends
+
+-- what the function answers and leaves
+abbrev pub Ended : (s t : List ℕ) → ℕ → Drained → List ℕ → Type 0
+Ended s t budget r now-s = (r ≡ drainEndOf s t budget .answer) × (now-s ≡ drainEndOf s t budget .state)
+
+-- it is refused
+pub drain-refused : {g : Begun} {r : Drained} (s t : List ℕ) (budget : ℕ) → g ≡ beginOf s t 0 → (g .number ≡ 0 → ⊥) → r ≡ refusedDrain (g .number) (g .place) → Ended s t budget r s
+unfolding drainEndOf
+drain-refused {g} s t budget e h k = (rw (← e, ne-eqb h) k, rw (← e, ne-eqb h))
+
+-- it is drained
+pub drain-done : {g : Begun} {e f : List ℕ} {r : Drains} (s t now-s : List ℕ) (budget : ℕ) → Bytes s → g ≡ beginOf s t 0 → g .number ≡ 0
+    → DrainsTo (g .network .known) (g .table .topics) (g .network .pending) (g .network .seen) budget e f r
+    → now-s ≡ bytesOf (mk (g .network .present) (g .network .pubs) (g .network .subs) (g .network .neighbours) e f (g .network .known))
+    → Ended s t budget (drained 0 0 (r .forwards) (r .rounds) (r .quiet)) now-s
+unfolding drainEndOf
+drain-done {g} s t now-s budget h k z d w =
+    let a = d (g .network .present) (g .network .pubs) (g .network .subs) (g .network .neighbours) (g .table .origins) (rw k (begun-sound s t h)) (rw k (begun-rows s t)) in
+    (rw (← k, z, a .forwards, a .rounds, a .quiet), rw (← k, z, ← (a .end)) w)

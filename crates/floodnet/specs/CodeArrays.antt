@@ -1,19 +1,19 @@
 -- The places at which the loops of src/arrays.rt change a list, and their turns. Assumes nothing.
 use mathlib.Core.Path.{_≡_, refl, sym, ap, _∙_}
-use mathlib.Core.Bool.{Bool, true, false, not, _&&_, _||_}
+use mathlib.Core.Bool.{Bool, true, false, _&&_, _||_}
 use mathlib.Core.List.{List}
-use Prim.Native.Nat.{ℕ, _+_, _*_, _/_, _%_, _^_, _<_}
+use Prim.Native.Nat.{ℕ, _+_, _*_, _/_, _%_, _<_}
 use native.Mathlib.Omega.{arith}
-use lib.Dec.{eqb, ltb}
-use lib.ListN.{length, getD, set}
-use borrow.Author.Tests.{eqb-true, lt-ltb, le-ltb}
-use Rattle.sets.specs.Set.{has, union, minus, only, withIf, lowest}
-use Rattle.sets.specs.Bools.{bool2, eqb-same, ne-eqb}
+use lib.Dec.{eqb}
+use lib.ListN.{getD, set}
+use borrow.Author.Tests.{eqb-true}
+use Rattle.sets.specs.Set.{has, union, minus, only, lowest}
+use Rattle.sets.specs.Bools.{bool2, eqb-same}
 use Rattle.sets.specs.Members.{has-union, has-none, has-only, has-with, has-with-other}
 use Rattle.lists.specs.Edit.{edit}
 use Rattle.network.specs.declared.Peer.{Peer}
 use Rattle.floodnet.specs.Topics.{noted, struck}
-use Rattle.floodnet.specs.CodeWhen.{picks, picks-with, picks-without, puts, strikes, blanks, puts-twice, strikes-twice, Next, Picking, picking-store, picking-edit}
+use Rattle.floodnet.specs.CodeWhen.{picks, picks-with, picks-without, puts, strikes, Next, Picking, picking-store}
 
 -- peer q has m pending or seen
 unfoldable pub holding : List ℕ → List ℕ → ℕ → ℕ → Bool

@@ -1,6 +1,6 @@
 -- An effect looks at some parts of a network only, so the code that makes it takes those alone. A contract speaks of a network
 -- that has these parts and nothing else; the laws here lift such an equation to any network with the same parts. Assumes nothing.
-use mathlib.Core.Path.{_≡_, refl, sym, ap, ap₂, _∙_}
+use mathlib.Core.Path.{_≡_, refl, ap, ap₂, _∙_}
 use mathlib.Core.List.{List, []}
 use Prim.Native.Nat.{ℕ, _+_, _*_}
 use lib.ListN.{getD, set}
@@ -10,7 +10,7 @@ use Rattle.network.specs.declared.Peer.{Peer}
 use Rattle.network.specs.declared.Message.{Message}
 use Rattle.network.specs.declared.Network.{Network}
 use Rattle.network.specs.declared.Table.{Table}
-use Rattle.network.specs.Network.{mk, topicOf}
+use Rattle.network.specs.Network.{mk}
 use Rattle.floodnet.specs.Produce.{holders, produced}
 use Rattle.floodnet.specs.Forward.{moved, receivers, given, forwarded}
 use Rattle.floodnet.specs.CodeArrays.{holding}

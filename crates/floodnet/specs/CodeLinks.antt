@@ -1,12 +1,12 @@
 -- The code of subscribe, unsubscribe, join and leave, part by part: what the words and rows become is what Topics and Links say.
 -- Assumes nothing.
-use mathlib.Core.Path.{_≡_, refl, sym, ap, ap₂, _∙_}
-use mathlib.Core.Bool.{Bool, true, false, not, _&&_}
+use mathlib.Core.Path.{_≡_, sym, ap, ap₂, _∙_}
+use mathlib.Core.Bool.{Bool, not, _&&_}
 use mathlib.Core.List.{List, []}
 use Prim.Native.Nat.{ℕ, _/_, _%_}
 use lib.Dec.{eqb}
 use lib.ListN.{getD, set}
-use Rattle.sets.specs.Set.{has, union, minus, only, withIf, sift}
+use Rattle.sets.specs.Set.{has, union, minus, only, withIf}
 use Rattle.sets.specs.Bools.{eqb-same, ne-eqb}
 use Rattle.lists.specs.Edit.{edit, edit-edit, set-is-edit}
 use Rattle.network.specs.declared.Peer.{Peer}

@@ -1,18 +1,14 @@
--- How the code comes to a refusal, test by test; and a refusal looks at some parts of a network only. Assumes nothing.
-use mathlib.Core.Path.{_≡_, refl, sym, ap, _∙_}
+-- How the code comes to a refusal, test by test. Assumes nothing.
+use mathlib.Core.Path.{_≡_, sym, ap, _∙_}
 use mathlib.Core.Bool.{Bool, true, false, not}
-use mathlib.Core.List.{List, []}
 use Prim.Native.Nat.{ℕ}
 use lib.Dec.{eqb}
 use borrow.Author.Tests.{not-true, not-false, eq-eqb, ne-eqb}
 use Rattle.sets.specs.Set.{sift}
-use Rattle.network.specs.declared.Peer.{Peer}
 use Rattle.network.specs.declared.Message.{Message}
 use Rattle.network.specs.declared.Network.{Network}
-use Rattle.network.specs.declared.Table.{Table}
-use Rattle.network.specs.Network.{mk}
-use Rattle.floodnet.specs.Produce.{holders, isNew}
-use Rattle.floodnet.specs.Refusals.{need, refusalProduce, refusalForward, refusalTopics, refusalLeave, refusalJoin}
+use Rattle.floodnet.specs.Produce.{holders}
+use Rattle.floodnet.specs.Refusals.{need}
 use Rattle.floodnet.specs.CodeArrays.{holding}
 
 -- a condition that fails, and one that holds

@@ -1,14 +1,14 @@
 -- One row of `known`, word by word, and the rows of the members of a set, row by row. Assumes nothing.
-use mathlib.Core.Path.{_≡_, refl, sym, ap, _∙_}
-use mathlib.Core.Bool.{Bool, true, false, not, _&&_, _||_}
+use mathlib.Core.Path.{_≡_, refl, ap, _∙_}
+use mathlib.Core.Bool.{Bool, true, false, not, _&&_}
 use mathlib.Core.List.{List}
-use Prim.Native.Nat.{ℕ, _+_, _*_, _/_, _%_, _^_, _<_}
+use Prim.Native.Nat.{ℕ, _+_, _*_, _/_, _%_, _<_}
 use native.Mathlib.Omega.{arith}
 use lib.Dec.{eqb, ltb}
-use lib.ListN.{length, getD, set}
+use lib.ListN.{getD, set}
 use borrow.Author.Tests.{eqb-true, lt-ltb, le-ltb, ltb-true}
-use Rattle.sets.specs.Set.{has, union, minus, only, lowest}
-use Rattle.sets.specs.Bools.{bool2, eqb-same, ne-eqb, bool-ext}
+use Rattle.sets.specs.Set.{minus}
+use Rattle.sets.specs.Bools.{bool2, eqb-same, bool-ext}
 use Rattle.lists.specs.Edit.{edit, edit-none}
 use Rattle.floodnet.specs.Links.{minusIf, keepIf}
 use Rattle.floodnet.specs.CodeWhen.{strikes, blanks, picks, picks-none, picks-same, picks-store, picks-minus, picks-keep, Next}

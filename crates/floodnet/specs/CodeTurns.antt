@@ -4,7 +4,6 @@ use mathlib.Core.Path.{_≡_, refl, sym, ap, ap₂, _∙_, subst}
 use mathlib.Core.List.{List, []}
 use Prim.Native.Nat.{ℕ, zero, suc, _≤_, _<_}
 use native.Mathlib.Omega.{arith}
-use Rattle.sets.specs.Set.{size}
 use Rattle.network.specs.declared.Peer.{Peer}
 use Rattle.network.specs.declared.Message.{Message}
 use Rattle.network.specs.declared.Network.{Network}
@@ -21,7 +20,7 @@ use Rattle.floodnet.specs.Topics.{subscribedTo, unsubscribedFrom}
 use Rattle.floodnet.specs.Links.{left, joined}
 use Rattle.floodnet.specs.Refusals.{refusalProduce, refusalForward, refusalTopics, refusalLeave, refusalJoin}
 use Rattle.floodnet.specs.Step.{refusal, effect, ifAccepted, after, kindOf, deliveriesOf, turned, turnedOf}
-use Rattle.floodnet.specs.CodeForward.{table, ofMessages}
+use Rattle.floodnet.specs.CodeForward.{table}
 
 -- n became n′ and r was answered: the event was refused by `refuse n`, or, if that is 0, took effect and counts for `count n`
 pub record Took (refuse : Network → ℕ) (kind : ℕ) (count : Network → ℕ) (effect : Network → Network) (n n′ : Network) (r : Turned) : Type 0 where

@@ -1,7 +1,7 @@
 -- A loop that visits the members of s, the least first, and edits a list on the way: once the members t are visited, the
 -- list is edit (f t) of what it was. Assumes nothing.
-use mathlib.Core.Path.{_≡_, refl, sym, ap, _∙_, subst}
-use mathlib.Core.Bool.{true, false}
+use mathlib.Core.Path.{_≡_, sym, ap, _∙_}
+use mathlib.Core.Bool.{true}
 use mathlib.Core.List.{List}
 use Prim.Native.Nat.{ℕ, _^_, _<_}
 use native.Mathlib.Omega.{arith}
@@ -11,7 +11,7 @@ use lib.Seq.{getD-set-same, getD-set-other}
 use Rattle.sets.specs.Set.{has, union, minus, only, Subset, lowest}
 use Rattle.sets.specs.Bounds.{minus-lt}
 use Rattle.sets.specs.Lowest.{lowest-has}
-use Rattle.sets.specs.Visits.{minus-self, minus-none, subset-self, subset-step, visit-step, visit-new}
+use Rattle.sets.specs.Visits.{minus-self, minus-none, subset-self, subset-step, visit-step}
 use Rattle.lists.specs.Edit.{edit, length-edit, getD-edit, is-edit, edit-none, edit-same, edit-edit}
 
 -- one store, of h of what stands at k: g is f at every other place, and h of what f gives at k

@@ -1,9 +1,8 @@
 -- The loops of src/rows.rt over the rows of the members of a set. Assumes nothing.
 use mathlib.Core.Path.{_≡_, refl, sym, ap, _∙_}
-use mathlib.Core.Bool.{Bool, true, false, not, _&&_, _||_}
+use mathlib.Core.Bool.{Bool, true, false, _&&_, _||_}
 use mathlib.Core.List.{List}
-use Prim.Native.Nat.{ℕ, _+_, _*_, _/_, _%_, _^_, _<_}
-use native.Mathlib.Omega.{arith}
+use Prim.Native.Nat.{ℕ, _/_, _%_, _<_}
 use lib.Dec.{eqb}
 use lib.ListN.{getD}
 use borrow.Author.Tests.{eqb-true, eq-eqb}
@@ -12,13 +11,13 @@ use Rattle.sets.specs.Bools.{bool2, bool-ext}
 use Rattle.sets.specs.Members.{members, has-union, has-none, has-only, ext}
 use Rattle.sets.specs.Build.{has-withIf}
 use Rattle.sets.specs.Lowest.{lowest-has, lowest-lt}
-use Rattle.sets.specs.Visits.{minus-self, minus-none, setOf-none, visit-step, sift-step}
+use Rattle.sets.specs.Visits.{setOf-none, visit-step, sift-step}
 use Rattle.lists.specs.Edit.{edit}
 use Rattle.network.specs.declared.Peer.{Peer}
 use Rattle.floodnet.specs.Topics.{noted, struck, withoutIf}
 use Rattle.floodnet.specs.Links.{unionIf, minusIf}
 use Rattle.floodnet.specs.CodeVisit.{Along, along-more, edit-then}
-use Rattle.floodnet.specs.CodeWhen.{picks, picks-with, picks-without, picks-minus, puts, strikes, puts-twice, strikes-twice, Picking, picking-edit}
+use Rattle.floodnet.specs.CodeWhen.{picks, picks-without, picks-minus, puts, strikes, puts-twice, strikes-twice, Picking, picking-edit}
 use Rattle.floodnet.specs.CodeArrays.{inside, inside-noted, inside-struck}
 
 eqb-swap : (a b : ℕ) → eqb a b ≡ eqb b a

@@ -22,7 +22,7 @@ pub(crate) fn produce(pending: &mut [u64; 32], p: Peer, m: Message)
 }
 
 // Forward of m by p: m moves from pending to seen at p, and becomes pending at the receivers, whose set is answered.
-pub(crate) fn forward(
+pub fn forward(
     pending: &mut [u64; 32],
     seen: &mut [u64; 32],
     known: &[u32; 1024],

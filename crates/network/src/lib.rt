@@ -26,3 +26,24 @@ pub struct Table {
     pub topics: [u8; 64],
     pub origins: [u8; 64],
 }
+
+// What reading a state answers: the number of document 01 ("Numbers returned"), the record at fault, and the network; the blank
+// one where the number is not 0.
+pub struct Opened {
+    pub number: u8,
+    pub place: usize,
+    pub network: Network,
+}
+
+// What writing a state answers: the number and the record at fault.
+pub struct Wrote {
+    pub number: u8,
+    pub place: usize,
+}
+
+// What reading a message table answers: the number, the row at fault, and the table; zeros where the number is not 0.
+pub struct Listed {
+    pub number: u8,
+    pub place: usize,
+    pub table: Table,
+}

@@ -1,6 +1,8 @@
 pub mod Bools
 pub mod Set
 pub mod Sums
+pub mod Any
+pub mod Least
 pub mod Members
 pub mod Bounds
 pub mod Words
@@ -8,6 +10,7 @@ pub mod Build
 pub mod Lowest
 pub mod Sizes
 pub mod Subsets
+pub mod Algebra
 pub mod Counts
 pub mod Visits
 pub mod Examples

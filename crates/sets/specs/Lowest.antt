@@ -1,21 +1,21 @@
 -- The least member, and a set without it. Assumes nothing.
 use mathlib.Core.Path.{_≡_, refl, sym, ap, _∙_}
-use mathlib.Core.Bool.{Bool, true, false, not, _&&_, true≢false}
-use Prim.Native.Nat.{ℕ, zero, suc, _-_, _*_, _/_, _%_, _^_, _≤_, _<_}
-use native.Mathlib.Nat.{pow-suc, not-suc-le-zero, lt-of-not-le, le-of-suc-le-suc, le-antisymm}
+use mathlib.Core.Bool.{Bool, true, false, not, _&&_}
+use Prim.Native.Nat.{ℕ, zero, suc, _-_, _*_, _/_, _%_, _^_, _<_}
+use native.Mathlib.Nat.{pow-suc, not-suc-le-zero, le-of-suc-le-suc, zero-lt-suc}
 use native.Mathlib.Omega.{arith}
-use borrow.Author.Tests.{ne-eqb, eqb-true}
 use lib.Dec.{eqb}
-use lib.Arith.{le-zero}
 use lib.Pow.{pow-pos}
 use lib.Bits.{bitAnd, and-step, and-self}
-use lib.Count.{trailingZeros, under}
+use lib.Count.{trailingZeros, under, trailing-of-zero}
 use Rattle.sets.specs.Set.{has, meet, minus, only, lowest}
-use Rattle.sets.specs.Bools.{bool2}
+use Rattle.sets.specs.Bools.{clash, ne-eqb, and-eqb}
 use Rattle.sets.specs.Members.{has-first, has-rest, has-meet, has-none, has-only, half-lt, ext}
-use Rattle.sets.specs.Bounds.{has-in}
+use Rattle.sets.specs.Bounds.{has-in, member-pos}
 use Rattle.sets.specs.Words.{shl-only}
+use Rattle.sets.specs.Least.{lowestOf, lowestOf-is, lowestOf-none}
 
+-- The least member is a member, where there is one.
 pub lowest-has : (k w : ℕ) → 0 < w → w < 2 ^ k → has w (lowest k w) ≡ true
 unfolding lowest trailingZeros
 lowest-has zero w p h = absurd (omega arith)
@@ -25,6 +25,7 @@ lowest-has (suc k) w p h = go (w % 2) refl (λ (e : w % 2 ≡ 0). lowest-has k (
     go zero e ih = has-rest w (lowest k (w / 2)) ∙ ih e
     go (suc r) e ih = let o : w % 2 ≡ 1 = omega arith in has-first w ∙ ap (λ (x : ℕ). eqb x 1) o
 
+-- What is below it is not.
 pub lowest-least : (k w j : ℕ) → j < lowest k w → has w j ≡ false
 unfolding lowest trailingZeros
 lowest-least zero w j h = absurd (not-suc-le-zero h)
@@ -36,52 +37,59 @@ lowest-least (suc k) w j h = go (w % 2) refl j h (lowest-least k (w / 2))
     go zero e (suc j) h ih = has-rest w j ∙ ih j (le-of-suc-le-suc h)
     go (suc r) e j h ih = absurd (not-suc-le-zero h)
 
+-- It is below the width.
 pub lowest-lt : (k w : ℕ) → 0 < w → w < 2 ^ k → lowest k w < k
 lowest-lt k w p h = has-in k w (lowest k w) h (lowest-has k w p h)
 
--- only 0 has no member
+-- The empty set's is the width.
+pub lowest-none : (k : ℕ) → lowest k 0 ≡ k
+unfolding lowest
+lowest-none = trailing-of-zero
+
+-- Only 0 has no member.
 pub none-empty : (w : ℕ) → ((i : ℕ) → has w i ≡ false) → w ≡ 0
 none-empty w e = ext w 0 (λ i. e i ∙ sym (has-none i))
 
--- a member with none below it is the least
+-- A member with none below it is the least.
 pub lowest-is : (k w t : ℕ) → w < 2 ^ k → has w t ≡ true → ((j : ℕ) → j < t → has w j ≡ false) → lowest k w ≡ t
-lowest-is k w t h e none = le-antisymm (lt-or-le (lowest k w) t (λ (l : t < lowest k w). true≢false (sym e ∙ lowest-least k w t l))) (lt-or-le t (lowest k w) (λ (l : lowest k w < t). true≢false (sym (lowest-has k w some h) ∙ none (lowest k w) l)))
-  where
-    lt-or-le : (x y : ℕ) → (y < x → ⊥) → x ≤ y
-    lt-or-le x y f = le-of-suc-le-suc (lt-of-not-le (λ (l : suc y ≤ x). f l))
+lowest-is k w t h e none =
+    let below : lowest k w < t → ⊥ = λ l. clash (lowest-has k w (member-pos w t e) h) (none (lowest k w) l) in
+    let above : t < lowest k w → ⊥ = λ l. clash e (lowest-least k w t l) in
+    omega arith
 
-    some : 0 < w
-    some = lt-of-not-le (λ (l : w ≤ 0). true≢false (sym e ∙ ap (λ (x : ℕ). has x t) (le-zero l) ∙ has-none t))
+-- The least member is the least number that is a member.
+pub lowest-lowestOf : (k w : ℕ) → w < 2 ^ k → lowest k w ≡ lowestOf k (has w)
+lowest-lowestOf k zero h = lowest-none k ∙ sym (lowestOf-none k (has 0) (λ i l. has-none i))
+lowest-lowestOf k (suc w) h =
+    sym (lowestOf-is k (has (suc w)) (lowest k (suc w)) (lowest-lt k (suc w) (zero-lt-suc w) h) (lowest-has k (suc w) (zero-lt-suc w) h) (lowest-least k (suc w)))
 
--- a member that is taken away
-at-only : (w i j : ℕ) → has w j && eqb i j ≡ has w i && eqb i j
-at-only w i j = go (eqb i j) refl
-  where
-    go : (x : Bool) → eqb i j ≡ x → has w j && x ≡ has w i && x
-    go true e = ap (λ (n : ℕ). has w n && true) (sym (eqb-true i j e))
-    go false e = bool2 (λ (x y : Bool). x && false ≡ y && false) refl refl refl refl (has w j) (has w i)
+-- ---- a member that is taken away
 
+-- What w and the set of i have in common: i, if it is in w.
 pub meet-only : (w i : ℕ) → has w i ≡ true → meet w (only i) ≡ only i
 meet-only w i h =
-    ext (meet w (only i)) (only i) (λ j. simp (has-meet, has-only) (at-only w i j ∙ ap (λ (x : Bool). x && eqb i j) h))
+    ext (meet w (only i)) (only i) (λ j. simp (has-meet, has-only) (and-eqb (has w) i j ∙ ap (λ (x : Bool). x && eqb i j) h))
 
+-- Nothing, if it is not.
 pub meet-only-none : (w i : ℕ) → has w i ≡ false → meet w (only i) ≡ 0
 meet-only-none w i h =
-    none-empty (meet w (only i)) (λ j. simp (has-meet, has-only) (at-only w i j ∙ ap (λ (x : Bool). x && eqb i j) h))
+    none-empty (meet w (only i)) (λ j. simp (has-meet, has-only) (and-eqb (has w) i j ∙ ap (λ (x : Bool). x && eqb i j) h))
 
--- `w & (1 << i) != 0`
+-- `w & (1 << i) != 0` asks for i.
 pub and-shl-has : (k w i : ℕ) → i < k → not (eqb (bitAnd w ((1 * 2 ^ i) % 2 ^ k)) 0) ≡ has w i
 unfolding meet only
 and-shl-has k w i h = ap (λ (x : ℕ). not (eqb (bitAnd w x) 0)) (shl-only k i h) ∙ go (has w i) refl
   where
     go : (b : Bool) → has w i ≡ b → not (eqb (meet w (only i)) 0) ≡ b
-    go true e = ap (λ (x : ℕ). not (eqb x 0)) (meet-only w i e) ∙ ap not (ne-eqb (only i) 0 (λ (z : 2 ^ i ≡ 0). omega (arith, pow-pos i)))
+    go true e = ap (λ (x : ℕ). not (eqb x 0)) (meet-only w i e) ∙ ap not (ne-eqb (λ (z : only i ≡ 0). omega (arith, pow-pos i)))
     go false e = ap (λ (x : ℕ). not (eqb x 0)) (meet-only-none w i e)
 
+-- A member that is taken away takes its bit.
 pub minus-only : (w i : ℕ) → has w i ≡ true → minus w (only i) ≡ w - 2 ^ i
 unfolding minus meet only
 minus-only w i h = ap (λ (x : ℕ). w - x) (meet-only w i h)
 
+-- `w & (w - 1)` takes the lowest bit.
 less-lowest : (k w : ℕ) → 0 < w → w < 2 ^ k → bitAnd w (w - 1) ≡ w - 2 ^ trailingZeros k w
 unfolding trailingZeros
 less-lowest zero w p h = absurd (omega arith)
@@ -96,10 +104,11 @@ less-lowest (suc k) w p h = go (w % 2) refl (λ (e : w % 2 ≡ 0). less-lowest k
         let half : (w - 1) / 2 ≡ w / 2 = omega arith in
         omega (arith, and-step w (w - 1), ap (bitAnd (w / 2)) half, and-self (w / 2))
 
--- `w & (w - 1)`
+-- `w & (w - 1)` is w without its least member.
 pub and-pred : (k w : ℕ) → 0 < w → w < 2 ^ k → bitAnd w (w - 1) ≡ minus w (only (lowest k w))
 unfolding lowest
 and-pred k w p h = less-lowest k w p h ∙ sym (minus-only w (lowest k w) (lowest-has k w p h))
 
+-- It is less than w.
 pub and-pred-lt : (k w : ℕ) → 0 < w → w < 2 ^ k → bitAnd w (w - 1) < w
 and-pred-lt k w p h = let l = pow-pos (trailingZeros k w) in omega (arith, less-lowest k w p h)

@@ -1,24 +1,26 @@
 -- Which numbers are in what the operations give; a set is its members (extensionality). Assumes nothing.
 use mathlib.Core.Path.{_≡_, refl, sym, ap, _∙_}
-use mathlib.Core.Bool.{Bool, true, false, not, _&&_, _||_, true≢false, false≢true}
+use mathlib.Core.Bool.{Bool, true, false, not, _&&_, _||_, true≢false, false≢true, and-true, and-false, or-true, or-false, and-self-left}
 use Prim.Native.Nat.{ℕ, zero, suc, _+_, _*_, _/_, _%_, _^_, _<_, suc-le-suc, min, max}
 use native.Mathlib.Nat.{lt-of-lt-of-le, zero-lt-suc, mod-lt, div-one, zero-div}
 use native.Mathlib.Numerals.{one-add}
 use native.Mathlib.Omega.{arith}
-use borrow.Author.Tests.{eq-eqb, ne-eqb}
 use lib.Dec.{eqb, eqb·suc-suc, eqb·zero-suc, eqb·suc-zero}
 use lib.Arith.{digits-mod}
 use lib.Pow.{pow-mono, shr-shr}
 use lib.Bits.{bitAnd, bitOr, bitXor, differ, and-step, or-step, xor-step, and-shr, or-shr, xor-shr, and-le-l, xor-add-and}
 use Rattle.sets.specs.Set.{has, union, meet, minus, only}
-use Rattle.sets.specs.Bools.{bool2}
+use Rattle.sets.specs.Bools.{apart-and, eqb-same, ne-eqb}
+pub use Rattle.sets.specs.Bools.{apart}
 
 -- ---- a bit of the halves
 
+-- 0 is a member of an odd number.
 pub has-first : (w : ℕ) → has w 0 ≡ eqb (w % 2) 1
 unfolding has
 has-first w = ap (λ (x : ℕ). eqb (x % 2) 1) (div-one w)
 
+-- The others are the members of its half, moved by one.
 pub has-rest : (w i : ℕ) → has w (suc i) ≡ has (w / 2) i
 unfolding has
 has-rest w i = ap (λ (x : ℕ). eqb (x % 2) 1) (sym (shr-shr w 1 i ∙ ap (λ (x : ℕ). w / 2 ^ x) (one-add i)))
@@ -29,6 +31,7 @@ module _ (op f : ℕ → ℕ → ℕ) (g : Bool → Bool → Bool)
     (step : (a b : ℕ) → op a b ≡ op (a / 2) (b / 2) * 2 + f (a % 2) (b % 2))
     (small : (p q : ℕ) → p < 2 → q < 2 → f p q < 2)
     (same : (p q : ℕ) → p < 2 → q < 2 → eqb (f p q) 1 ≡ g (eqb p 1) (eqb q 1)) where
+  -- An operation that works digit by digit.
   has-op : (a b i : ℕ) → has (op a b) i ≡ g (has a i) (has b i)
   unfolding has
   has-op a b i =
@@ -40,7 +43,7 @@ module _ (op f : ℕ → ℕ → ℕ) (g : Bool → Bool → Bool)
       ∙ ap (λ (n : ℕ). eqb n 1) (digits-mod (op (x / 2) (y / 2)) (small (x % 2) (y % 2) hx hy))
       ∙ same (x % 2) (y % 2) hx hy
 
--- a fact of two digits, by its four cases
+-- A fact of two digits, by its four cases.
 digits2 : (P : ℕ → ℕ → Type 0) → P 0 0 → P 0 1 → P 1 0 → P 1 1 → (p q : ℕ) → p < 2 → q < 2 → P p q
 digits2 P a b c d zero zero hp hq = a
 digits2 P a b c d zero (suc zero) hp hq = b
@@ -50,6 +53,7 @@ digits2 P a b c d (suc (suc p)) q hp hq = absurd (omega arith)
 digits2 P a b c d zero (suc (suc q)) hp hq = absurd (omega arith)
 digits2 P a b c d (suc zero) (suc (suc q)) hp hq = absurd (omega arith)
 
+-- The union has what one of the two has.
 pub has-union : (a b i : ℕ) → has (union a b) i ≡ has a i || has b i
 unfolding union
 has-union =
@@ -57,6 +61,7 @@ has-union =
     (λ p q hp hq. omega arith)
     (digits2 (λ (p q : ℕ). eqb (max p q) 1 ≡ eqb p 1 || eqb q 1) refl refl refl refl)
 
+-- The meet has what both have.
 pub has-meet : (a b i : ℕ) → has (meet a b) i ≡ has a i && has b i
 unfolding meet
 has-meet =
@@ -64,16 +69,14 @@ has-meet =
     (λ p q hp hq. omega arith)
     (digits2 (λ (p q : ℕ). eqb (min p q) 1 ≡ eqb p 1 && eqb q 1) refl refl refl refl)
 
-abbrev pub apart : Bool → Bool → Bool
-apart true b = not b
-apart false b = b
-
+-- `a ^ b` has what one of the two has, and not the other.
 pub has-xor : (a b i : ℕ) → has (bitXor a b) i ≡ apart (has a i) (has b i)
 has-xor =
     has-op bitXor differ apart xor-shr xor-step
     (digits2 (λ (p q : ℕ). differ p q < 2) (omega arith) (omega arith) (omega arith) (omega arith))
     (digits2 (λ (p q : ℕ). eqb (differ p q) 1 ≡ apart (eqb p 1) (eqb q 1)) refl refl refl refl)
 
+-- 0 is the empty set.
 pub has-none : (i : ℕ) → has 0 i ≡ false
 unfolding has
 has-none i = ap (λ (x : ℕ). eqb (x % 2) 1) (zero-div (2 ^ i))
@@ -84,6 +87,7 @@ even-pow i = omega arith
 half-pow : (i : ℕ) → 2 ^ suc i / 2 ≡ 2 ^ i
 half-pow i = omega arith
 
+-- The one member of `only i` is i.
 pub has-only : (i j : ℕ) → has (only i) j ≡ eqb i j
 unfolding has only
 has-only zero zero = refl
@@ -94,11 +98,15 @@ has-only (suc i) (suc j) = has-rest (2 ^ suc i) j ∙ ap (λ (x : ℕ). has x j)
 -- ---- a set is its members
 
 odd-eq : (a b : ℕ) → eqb (a % 2) 1 ≡ eqb (b % 2) 1 → a % 2 ≡ b % 2
-odd-eq a b = digits2 (λ (p q : ℕ). eqb p 1 ≡ eqb q 1 → p ≡ q) (λ e. refl) (λ e. absurd (false≢true e)) (λ e. absurd (true≢false e)) (λ e. refl) (a % 2) (b % 2) (mod-lt a (zero-lt-suc 1)) (mod-lt b (zero-lt-suc 1))
+odd-eq a b =
+    digits2 (λ (p q : ℕ). eqb p 1 ≡ eqb q 1 → p ≡ q) (λ e. refl) (λ e. absurd (false≢true e)) (λ e. absurd (true≢false e)) (λ e. refl)
+    (a % 2) (b % 2) (omega arith) (omega arith)
 
+-- Half a word has one bit less.
 pub half-lt : (k a : ℕ) → a < 2 ^ suc k → a / 2 < 2 ^ k
 half-lt k a h = omega arith
 
+-- Two sets of numbers below k with the same members are equal.
 pub ext-below : (k a b : ℕ) → a < 2 ^ k → b < 2 ^ k → ((i : ℕ) → i < k → has a i ≡ has b i) → a ≡ b
 ext-below zero a b ha hb e = omega arith
 ext-below (suc k) a b ha hb e =
@@ -107,10 +115,12 @@ ext-below (suc k) a b ha hb e =
     let odds : a % 2 ≡ b % 2 = odd-eq a b (sym (has-first a) ∙ e 0 (zero-lt-suc k) ∙ has-first b) in
     omega arith
 
+-- A number is below its power of two.
 pub below-pow : (n : ℕ) → n < 2 ^ n
 below-pow zero = zero-lt-suc 0
 below-pow (suc n) = let ih = below-pow n in omega arith
 
+-- Two sets with the same members are equal: extensionality.
 pub ext : (a b : ℕ) → ((i : ℕ) → has a i ≡ has b i) → a ≡ b
 ext a b e =
     ext-below (a + b) a b
@@ -122,36 +132,37 @@ ext a b e =
 
 meet-inside : (a b : ℕ) → bitAnd a (meet a b) ≡ meet a b
 unfolding meet
-meet-inside a b = ext (meet a (meet a b)) (meet a b) (λ i. simp has-meet (twice (has a i) (has b i)))
-  where
-    twice : (x y : Bool) → x && (x && y) ≡ x && y
-    twice true y = refl
-    twice false y = refl
+meet-inside a b = ext (meet a (meet a b)) (meet a b) (λ i. simp has-meet (and-self-left (has a i) (has b i)))
 
--- `a ^ (a & b)`
+-- `a ^ (a & b)` is the difference.
 pub xor-minus : (a b : ℕ) → bitXor a (bitAnd a b) ≡ minus a b
 unfolding minus meet
 xor-minus a b = omega (arith, xor-add-and a (bitAnd a b), meet-inside a b, and-le-l a b)
 
+-- The difference has what a has and b has not.
 pub has-minus : (a b i : ℕ) → has (minus a b) i ≡ has a i && not (has b i)
 unfolding meet
 has-minus a b i =
     ap (λ (x : ℕ). has x i) (sym (xor-minus a b)) ∙ has-xor a (meet a b) i ∙ ap (apart (has a i)) (has-meet a b i)
-    ∙ bool2 (λ (x y : Bool). apart x (x && y) ≡ x && not y) refl refl refl refl (has a i) (has b i)
+    ∙ apart-and (has a i) (has b i)
 
 -- ---- one member more, one less
 
+-- i is in w with i.
 pub has-with : (w i : ℕ) → has (union w (only i)) i ≡ true
-has-with w i = simp (has-union, has-only, eq-eqb i i refl) (bool2 (λ (x y : Bool). x || true ≡ true) refl refl refl refl (has w i) false)
+has-with w i = simp (has-union, has-only, eqb-same i) (or-true (has w i))
 
+-- Another is, if it was.
 pub has-with-other : (w i j : ℕ) → (i ≡ j → ⊥) → has (union w (only i)) j ≡ has w j
-has-with-other w i j d = simp (has-union, has-only, ne-eqb i j d) (bool2 (λ (x y : Bool). x || false ≡ x) refl refl refl refl (has w j) false)
+has-with-other w i j d = simp (has-union, has-only, ne-eqb d) (or-false (has w j))
 
+-- i is not in w without i.
 pub has-without : (w i : ℕ) → has (minus w (only i)) i ≡ false
-has-without w i = simp (has-minus, has-only, eq-eqb i i refl) (bool2 (λ (x y : Bool). x && false ≡ false) refl refl refl refl (has w i) false)
+has-without w i = simp (has-minus, has-only, eqb-same i) (and-false (has w i))
 
+-- Another is, if it was.
 pub has-without-other : (w i j : ℕ) → (i ≡ j → ⊥) → has (minus w (only i)) j ≡ has w j
-has-without-other w i j d = simp (has-minus, has-only, ne-eqb i j d) (bool2 (λ (x y : Bool). x && true ≡ x) refl refl refl refl (has w j) false)
+has-without-other w i j d = simp (has-minus, has-only, ne-eqb d) (and-true (has w j))
 
--- the members of the operations' results, for `simp`
+-- The members of the operations' results, for `simp`.
 pub ruleset members = (has-union, has-meet, has-minus, has-none, has-only)

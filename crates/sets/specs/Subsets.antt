@@ -1,64 +1,102 @@
 -- Every member of one set is in the other. Assumes nothing.
-use mathlib.Core.Path.{_≡_, refl, sym, ap, _∙_}
-use mathlib.Core.Bool.{Bool, true, false, not, _&&_, _||_}
-use Prim.Native.Nat.{ℕ, _+_, _≤_}
+use mathlib.Core.Path.{_≡_, sym, ap, _∙_}
+use mathlib.Core.Logic.{⊎-elim}
+use mathlib.Core.Bool.{Bool, true, false, not}
+use Prim.Native.Nat.{ℕ, _+_, _^_, _≤_, _<_}
 use native.Mathlib.Omega.{arith}
-use Rattle.sets.specs.Set.{has, union, meet, minus, Subset, size}
-use Rattle.sets.specs.Bools.{bool2}
+use Rattle.sets.specs.Set.{has, union, meet, minus, sift, Subset, size}
+use Rattle.sets.specs.Bools.{clash, bool-ext, not-no, and-both, and-yes, and-no, and-fails, or-left, or-right, or-yes}
 use Rattle.sets.specs.Members.{has-union, has-meet, has-none, ext, has-minus}
+use Rattle.sets.specs.Bounds.{has-in}
+use Rattle.sets.specs.Build.{lt-of-members, has-sift, sift-lt}
 use Rattle.sets.specs.Lowest.{none-empty}
 use Rattle.sets.specs.Sizes.{size-minus-meet}
 
+-- The union has each of the two.
 pub subset-union : (a b : ℕ) → Subset a (union a b)
 unfolding Subset
-subset-union a b i e = has-union a b i ∙ ap (λ (x : Bool). x || has b i) e
+subset-union a b i e = has-union a b i ∙ or-left (has b i) e
 
+pub subset-union-right : (a b : ℕ) → Subset b (union a b)
+unfolding Subset
+subset-union-right a b i e = has-union a b i ∙ or-right (has a i) e
+
+-- The union of two that are in c is in c.
+pub union-subset : (a b c : ℕ) → Subset a c → Subset b c → Subset (union a b) c
+unfolding Subset
+union-subset a b c h k i e = ⊎-elim (h i) (k i) (or-yes (has a i) (has b i) (sym (has-union a b i) ∙ e))
+
+-- The difference is in a.
 pub subset-minus : (a b : ℕ) → Subset (minus a b) a
 unfolding Subset
-subset-minus a b i e = bool2 (λ (x y : Bool). x && not y ≡ true → x ≡ true) (λ e. e) (λ e. e) (λ e. refl) (λ e. refl) (has a i) (has b i) (sym (has-minus a b i) ∙ e)
+subset-minus a b i e = and-yes (has a i) (not (has b i)) (sym (has-minus a b i) ∙ e) .0
 
+-- The meet is in each of the two.
 pub subset-meet : (a b : ℕ) → Subset (meet a b) a
 unfolding Subset
-subset-meet a b i e = bool2 (λ (x y : Bool). x && y ≡ true → x ≡ true) (λ e. e) (λ e. e) (λ e. refl) (λ e. refl) (has a i) (has b i) (sym (has-meet a b i) ∙ e)
+subset-meet a b i e = and-yes (has a i) (has b i) (sym (has-meet a b i) ∙ e) .0
 
+pub subset-meet-right : (a b : ℕ) → Subset (meet a b) b
+unfolding Subset
+subset-meet-right a b i e = and-yes (has a i) (has b i) (sym (has-meet a b i) ∙ e) .1
+
+-- The empty set is in every set.
+pub subset-none : (a : ℕ) → Subset 0 a
+unfolding Subset
+subset-none a i e = clash e (has-none i)
+
+-- In b, which is in c.
 pub subset-trans : (a b c : ℕ) → Subset a b → Subset b c → Subset a c
 unfolding Subset
 subset-trans a b c h k i e = k i (h i e)
 
--- the test `a & !b == 0`
+-- Sets that are in each other are equal.
+pub subset-eq : (a b : ℕ) → Subset a b → Subset b a → a ≡ b
+unfolding Subset
+subset-eq a b h k = ext a b (λ i. bool-ext (h i) (k i))
+
+-- A part of a word of k bits is one.
+pub subset-lt : (k a b : ℕ) → Subset a b → b < 2 ^ k → a < 2 ^ k
+unfolding Subset
+subset-lt k a b h l = lt-of-members k a (λ i e. has-in k b i l (h i e))
+
+-- The members of s that pass a test are in s.
+pub subset-sift : (n s : ℕ) (p : ℕ → Bool) → Subset (sift n s p) s
+unfolding Subset
+subset-sift n s p i e = and-yes (has s i) (p i) (sym (has-sift n s p i (has-in n (sift n s p) i (sift-lt n s p) e)) ∙ e) .0
+
+-- ---- tests for the empty set
+
+-- `a & !b == 0`: all of a is in b.
 pub subset-of-minus : (a b : ℕ) → minus a b ≡ 0 → Subset a b
 unfolding Subset
 subset-of-minus a b e i h =
-    bool2 (λ (x y : Bool). x && not y ≡ false → x ≡ true → y ≡ true) (λ e h. h) (λ e h. refl) (λ e h. sym e) (λ e h. refl) (has a i) (has b i)
-    (sym (has-minus a b i) ∙ ap (λ (x : ℕ). has x i) e ∙ has-none i) h
+    not-no (has b i) (and-fails (has a i) (not (has b i)) (sym (has-minus a b i) ∙ ap (λ (x : ℕ). has x i) e ∙ has-none i) h)
 
+-- And back.
 pub minus-of-subset : (a b : ℕ) → Subset a b → minus a b ≡ 0
 unfolding Subset
-minus-of-subset a b h = none-empty (minus a b) (λ i. has-minus a b i ∙ go (has a i) (has b i) (h i))
-  where
-    go : (x y : Bool) → (x ≡ true → y ≡ true) → x && not y ≡ false
-    go true y f = ap not (f refl)
-    go false y f = refl
+minus-of-subset a b h = none-empty (minus a b) (λ i. has-minus a b i ∙ and-no (has a i) (not (has b i)) (λ e. ap not (h i e)))
 
+-- `a & b == 0`: they have nothing in common.
+pub disjoint-of-meet : (a b : ℕ) → meet a b ≡ 0 → (i : ℕ) → has a i ≡ true → has b i ≡ false
+disjoint-of-meet a b e i h = and-fails (has a i) (has b i) (sym (has-meet a b i) ∙ ap (λ (x : ℕ). has x i) e ∙ has-none i) h
+
+-- And back.
+pub meet-none : (a b : ℕ) → ((i : ℕ) → has a i ≡ true → has b i ≡ false) → meet a b ≡ 0
+meet-none a b h = none-empty (meet a b) (λ i. has-meet a b i ∙ and-no (has a i) (has b i) (h i))
+
+-- ---- sizes
+
+-- What a has in common with a part of it is that part.
 pub meet-of-subset : (a b : ℕ) → Subset b a → meet a b ≡ b
 unfolding Subset
-meet-of-subset a b h = ext (meet a b) b (λ i. has-meet a b i ∙ go (has a i) (has b i) (h i))
-  where
-    go : (x y : Bool) → (y ≡ true → x ≡ true) → x && y ≡ y
-    go x true f = ap (λ (b : Bool). b && true) (f refl)
-    go x false f = bool2 (λ (x y : Bool). x && false ≡ false) refl refl refl refl x false
+meet-of-subset a b h = subset-eq (meet a b) b (subset-meet-right a b) (λ i e. has-meet a b i ∙ and-both (h i e) e)
 
+-- A part that is taken away.
 pub size-minus : (a b : ℕ) → Subset b a → size (minus a b) + size b ≡ size a
 size-minus a b h = omega (arith, size-minus-meet a b, ap size (meet-of-subset a b h))
 
+-- A part is no larger.
 pub subset-size : (a b : ℕ) → Subset a b → size a ≤ size b
 subset-size a b h = omega (arith, size-minus b a h)
-
-pub subset-eq : (a b : ℕ) → Subset a b → Subset b a → a ≡ b
-unfolding Subset
-subset-eq a b h k = ext a b (λ i. go i (has a i) (has b i) (h i) (k i))
-  where
-    go : (i : ℕ) (x y : Bool) → (x ≡ true → y ≡ true) → (y ≡ true → x ≡ true) → x ≡ y
-    go i true y f g = sym (f refl)
-    go i false true f g = g refl
-    go i false false f g = refl

@@ -7,7 +7,7 @@ use Rattle.sets.proofs.lowest32.Tie as tie
 
 returns : tie.Need-returns
 unfolding lowest
-returns c = (search needs, lowest-lt 32 (c .args .w) (search needs) (search needs))
+returns c = (search needs, lowest-lt 32 _ (search needs) (search needs))
 
 pub lowest32-spec : {M : Type 1} → statement M
 lowest32-spec = tie.close (tie.spec returns)

@@ -7,7 +7,7 @@ use Rattle.sets.proofs.lowest64.Tie as tie
 
 returns : tie.Need-returns
 unfolding lowest
-returns c = (search needs, lowest-lt 64 (c .args .w) (search needs) (search needs))
+returns c = (search needs, lowest-lt 64 _ (search needs) (search needs))
 
 pub lowest64-spec : {M : Type 1} → statement M
 lowest64-spec = tie.close (tie.spec returns)

@@ -5,7 +5,7 @@ use Rattle.sets.proofs.minus32.Statement.{statement}
 use Rattle.sets.proofs.minus32.Tie as tie
 
 returns : tie.Need-returns
-returns c = and-not 32 (c .args .a) (c .args .b) (search needs) (search needs)
+returns c = and-not 32 _ _ (search needs) (search needs)
 
 pub minus32-spec : {M : Type 1} → statement M
 minus32-spec = tie.close (tie.spec returns)

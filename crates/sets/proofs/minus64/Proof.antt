@@ -5,7 +5,7 @@ use Rattle.sets.proofs.minus64.Statement.{statement}
 use Rattle.sets.proofs.minus64.Tie as tie
 
 returns : tie.Need-returns
-returns c = and-not 64 (c .args .a) (c .args .b) (search needs) (search needs)
+returns c = and-not 64 _ _ (search needs) (search needs)
 
 pub minus64-spec : {M : Type 1} → statement M
 minus64-spec = tie.close (tie.spec returns)

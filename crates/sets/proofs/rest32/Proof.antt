@@ -8,7 +8,7 @@ sub-result : tie.Need-sub-result
 sub-result c = search needs
 
 returns : tie.Need-returns
-returns c = (and-pred 32 (c .args .w) (search needs) (search needs), and-pred-lt 32 (c .args .w) (search needs) (search needs))
+returns c = (and-pred 32 _ (search needs) (search needs), and-pred-lt 32 _ (search needs) (search needs))
 
 pub rest32-spec : {M : Type 1} → statement M
 rest32-spec = tie.close (tie.spec sub-result returns)

@@ -7,7 +7,7 @@ use Rattle.sets.proofs.size32.Tie as tie
 
 returns : tie.Need-returns
 unfolding size
-returns c = (search needs, size-le 32 (c .args .w) (search needs))
+returns c = (search needs, size-le 32 _ (search needs))
 
 pub size32-spec : {M : Type 1} → statement M
 size32-spec = tie.close (tie.spec returns)

@@ -7,7 +7,7 @@ use Rattle.sets.proofs.size64.Tie as tie
 
 returns : tie.Need-returns
 unfolding size
-returns c = (search needs, size-le 64 (c .args .w) (search needs))
+returns c = (search needs, size-le 64 _ (search needs))
 
 pub size64-spec : {M : Type 1} → statement M
 size64-spec = tie.close (tie.spec returns)

@@ -8,7 +8,7 @@ shl-result : tie.Need-shl-result
 shl-result c = search needs
 
 returns : tie.Need-returns
-returns c = or-shl 32 (c .args .w) (c .args .i) (search needs)
+returns c = or-shl 32 _ _ (search needs)
 
 pub with32-spec : {M : Type 1} → statement M
 with32-spec = tie.close (tie.spec shl-result returns)

@@ -8,7 +8,7 @@ shl-result : tie.Need-shl-result
 shl-result c = search needs
 
 returns : tie.Need-returns
-returns c = and-not-shl 32 (c .args .w) (c .args .i) (search needs) (search needs)
+returns c = and-not-shl 32 _ _ (search needs) (search needs)
 
 pub without32-spec : {M : Type 1} → statement M
 without32-spec = tie.close (tie.spec shl-result returns)

@@ -1,0 +1,102 @@
+-- A run over a list of events (document 01, "Numbers returned"). Assumes nothing.
+--   "Then events from place 0, each tested 6, 7, then its conditions. At the first refusal the run stops; the state buffer
+--   holds the state after the accepted events."
+--   "The host lends a tally record that the engine updates event by event: produced, forwards, deliveries, 64 bits each. It
+--   starts from zero in each run that gets past 5."
+use mathlib.Core.Bool.{Bool, true, false, cond}
+use mathlib.Core.List.{List}
+use Prim.Native.Nat.{ℕ, zero, suc, _+_, _/_, _^_, _<_}
+use lib.Dec.{eqb}
+use lib.ListN.{length}
+use Rattle.network.specs.declared.Network.{Network}
+use Rattle.network.specs.declared.Table.{Table}
+use Rattle.network.specs.State.{bytesOf}
+use Rattle.events.specs.declared.Read.{Read}
+use Rattle.events.specs.declared.Read.the-variants.{Taken, End, Refused}
+use Rattle.events.specs.Event.{readAt}
+use Rattle.floodnet.specs.declared.Turned.{Turned}
+use Rattle.floodnet.specs.Step.{after, turnedOf, refusedBy}
+use Rattle.engine.specs.declared.Tally.{Tally}
+use Rattle.engine.specs.declared.Answer.{Answer}
+use Rattle.engine.specs.declared.Begun.{Begun}
+use Rattle.engine.specs.Start.{beginOf}
+
+-- ---- the tally
+
+abbrev pub tally : ℕ → ℕ → ℕ → Tally
+tally produced forwards deliveries = record { produced = produced; forwards = forwards; deliveries = deliveries }
+
+abbrev pub zeroTally : Tally
+zeroTally = tally 0 0 0
+
+-- there is room for one event more with d deliveries
+pub record Room (t : Tally) (d : ℕ) : Type 0 where
+  pub produced : t .produced + 1 < 2 ^ 64
+  pub forwards : t .forwards + 1 < 2 ^ 64
+  pub deliveries : t .deliveries + d < 2 ^ 64
+
+-- "Produced and forwards are the accepted events of those kinds; deliveries is the sum of theirs." Kind 1 is a produce, 2 a forward.
+unfoldable pub talliedOf : Tally → ℕ → ℕ → Tally
+talliedOf t kind d =
+    cond (eqb kind 1) (tally (t .produced + 1) (t .forwards) (t .deliveries))
+    (cond (eqb kind 2) (tally (t .produced) (t .forwards + 1) (t .deliveries + d)) t)
+
+-- ---- one event
+
+pub record Outcome : Type 0 where
+  pub turned : Turned
+  pub network : Network
+
+-- what was read is done, or refused by 6 or 7
+unfoldable pub turnOf : Table → Network → Read → Outcome
+turnOf b n (Taken e) = record { turned = turnedOf n b e; network = after n b e }
+turnOf b n End = record { turned = refusedBy 0; network = n }
+turnOf b n (Refused k) = record { turned = refusedBy k; network = n }
+
+-- ---- a run
+
+-- how a run ended: its answer, the tally and the network
+pub record Final : Type 0 where
+  pub answer : Answer
+  pub tally : Tally
+  pub network : Network
+
+-- the run stops at a refused event; all events are done
+abbrev pub stopsAt : ℕ → ℕ → Tally → Network → Final
+stopsAt number place t n = record { answer = record { number = number; place = place; accepted = place }; tally = t; network = n }
+
+abbrev pub allDone : ℕ → Tally → Network → Final
+allDone count t n = record { answer = record { number = 0; place = 0; accepted = count }; tally = t; network = n }
+
+-- k events from place on
+unfoldable pub runFrom : ℕ → List ℕ → ℕ → Table → Network → Tally → Final
+runFrom zero ev place b n t = allDone place t n
+runFrom (suc k) ev place b n t =
+    let o = turnOf b n (readAt ev place) in
+    cond (eqb (o .turned .number) 0)
+    (runFrom k ev (place + 1) b (o .network) (talliedOf t (o .turned .kind) (o .turned .deliveries)))
+    (stopsAt (o .turned .number) place t n)
+
+-- every event of a list, from a network that was read
+unfoldable pub runAll : List ℕ → Table → Network → Final
+runAll ev b n = runFrom (length ev / 16) ev 0 b n zeroTally
+
+-- ---- the whole: bytes in, bytes out
+
+-- how the entry point ends: the answer, the tally and the state's bytes
+pub record Ending : Type 0 where
+  pub answer : Answer
+  pub tally : Tally
+  pub state : List ℕ
+
+-- refused before any event: "the accepted count is 0 and all buffers, the tally included, stay untouched"
+abbrev pub untouched : Begun → Tally → List ℕ → Ending
+untouched g old s = record { answer = record { number = g .number; place = g .place; accepted = 0 }; tally = old; state = s }
+
+abbrev pub written : Final → Ending
+written f = record { answer = f .answer; tally = f .tally; state = bytesOf (f .network) }
+
+unfoldable pub runOf : List ℕ → List ℕ → List ℕ → Tally → Ending
+runOf s t ev old =
+    let g = beginOf s t (length ev) in
+    cond (eqb (g .number) 0) (written (runAll ev (g .table) (g .network))) (untouched g old s)

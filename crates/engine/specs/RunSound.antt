@@ -1,0 +1,138 @@
+-- Over a run from a sound network: every network on the way is sound, and the pairs pending balance. Assumes nothing.
+--   "Soundness holds after every accepted event."
+--   "Pending pairs at the end = pending pairs at the start + produced + deliveries - forwards."
+use mathlib.Core.Path.{_≡_, refl, sym, ap, _∙_}
+use mathlib.Core.Logic.{_⊎_, inl, inr}
+use mathlib.Core.Bool.{Bool, true, false, cond}
+use mathlib.Core.List.{List}
+use Prim.Native.Nat.{ℕ, zero, suc, _+_, _-_, _*_, _≤_, _<_}
+use native.Mathlib.Omega.{arith}
+use lib.Dec.{eqb}
+use borrow.Author.Tests.{eqb-true, eqb-false, eq-eqb}
+use Rattle.sets.specs.Bools.{clash}
+use Rattle.sets.specs.Set.{digit}
+use Rattle.endian.specs.Le.{Bytes}
+use Rattle.network.specs.declared.Network.{Network}
+use Rattle.network.specs.declared.Table.{Table}
+use Rattle.network.specs.Network.{Rows}
+use Rattle.network.specs.Sound.{Sound}
+use Rattle.events.specs.declared.Event.{Event}
+use Rattle.events.specs.declared.Event.the-variants.{Skip, Produce, Forward, Subscribe, Unsubscribe, Leave, Join}
+use Rattle.events.specs.declared.Read.{Read}
+use Rattle.events.specs.declared.Read.the-variants.{Taken, End, Refused}
+use Rattle.events.specs.Event.{readAt}
+use Rattle.events.specs.Fits.{EventFits}
+use Rattle.events.specs.RoundTrip.{read-fits}
+use Rattle.floodnet.specs.Step.{refusal, effect, after, kindOf, delivers, turnedOf, refusedBy}
+use Rattle.floodnet.specs.StepLaws.{after-sound, effect-pairs, isKind}
+use Rattle.floodnet.specs.View.{pairs}
+use Rattle.floodnet.specs.declared.Turned.{Turned}
+use Rattle.engine.specs.declared.Tally.{Tally}
+use Rattle.engine.specs.Run.{talliedOf, Outcome, turnOf, Final, stopsAt, allDone, runFrom}
+use Rattle.engine.specs.RunLaws.{outcomeAt, tallyAfter, run-ind}
+use Rattle.engine.specs.RunCounts.{tallied-produced, tallied-forwards, tallied-deliveries}
+
+-- what was read from bytes is an event in range, or none
+unfoldable pub ReadFits : Read → Type 0
+ReadFits (Taken e) = EventFits e
+ReadFits End = Unit {0}
+ReadFits (Refused k) = Unit {0}
+
+pub reads-fit : (ev : List ℕ) → Bytes ev → (place : ℕ) → ReadFits (readAt ev place)
+unfolding ReadFits
+reads-fit ev h place = first (readAt ev place) refl
+  where
+    first : (r : Read) → readAt ev place ≡ r → ReadFits r
+    first (Taken e) z = read-fits ev place e h z
+    first End z = tt
+    first (Refused k) z = tt
+
+-- ---- one event
+
+pub turn-sound : {b : Table} {n : Network} → Sound n → Rows b → (r : Read) → ReadFits r → Sound (turnOf b n r .network)
+unfolding turnOf ReadFits
+turn-sound s rows (Taken e) f = after-sound s rows e f
+turn-sound s rows End f = s
+turn-sound s rows (Refused k) f = s
+
+-- pairs after an accepted event, by what the tally counts of it
+turn-pairs : {b : Table} {n : Network} → Sound n → Rows b → (r : Read) → ReadFits r → turnOf b n r .turned .number ≡ 0
+    → pairs (turnOf b n r .network) + digit (eqb (turnOf b n r .turned .kind) 2)
+    ≡ pairs n + (digit (eqb (turnOf b n r .turned .kind) 1) + turnOf b n r .turned .deliveries)
+unfolding turnOf ReadFits turnedOf after
+turn-pairs {b} {n} s rows (Taken e) f h = first (eqb (refusal n b e) 0) refl h
+  where
+    answer : Bool → Turned
+    answer x = cond x (record { number = 0; kind = kindOf e; deliveries = delivers n b e }) (refusedBy (refusal n b e))
+
+    first : (x : Bool) → eqb (refusal n b e) 0 ≡ x → answer x .number ≡ 0
+        → pairs (cond x (effect n b e) n) + digit (eqb (answer x .kind) 2) ≡ pairs n + (digit (eqb (answer x .kind) 1) + answer x .deliveries)
+    first true z k = effect-pairs s rows e f (eqb-true _ _ z)
+    first false z k = absurd (eqb-false (refusal n b e) 0 z k)
+turn-pairs s rows End f h = refl
+turn-pairs s rows (Refused k) f h = refl
+
+-- an event that is no forward delivers nothing
+event-delivers : (n : Network) (b : Table) (e : Event) → (kindOf e ≡ 2) ⊎ (delivers n b e ≡ 0)
+unfolding kindOf delivers
+event-delivers n b Skip = inr refl
+event-delivers n b (Produce p m) = inr refl
+event-delivers n b (Forward p m) = inl refl
+event-delivers n b (Subscribe p topics) = inr refl
+event-delivers n b (Unsubscribe p topics) = inr refl
+event-delivers n b (Leave p) = inr refl
+event-delivers n b (Join p j) = inr refl
+
+turn-delivers : (b : Table) (n : Network) (r : Read) → (turnOf b n r .turned .kind ≡ 2) ⊎ (turnOf b n r .turned .deliveries ≡ 0)
+unfolding turnOf turnedOf
+turn-delivers b n (Taken e) = first (eqb (refusal n b e) 0)
+  where
+    answer : Bool → Turned
+    answer x = cond x (record { number = 0; kind = kindOf e; deliveries = delivers n b e }) (refusedBy (refusal n b e))
+
+    first : (x : Bool) → (answer x .kind ≡ 2) ⊎ (answer x .deliveries ≡ 0)
+    first true = event-delivers n b e
+    first false = inr refl
+turn-delivers b n End = inr refl
+turn-delivers b n (Refused k) = inr refl
+
+-- ---- a run
+
+pub record Keeps (k place : ℕ) (n : Network) (t : Tally) (f : Final) : Type 0 where
+  pub sound : Sound n → Sound (f .network)
+  pub balance : Sound n
+      → pairs (f .network) + f .tally .forwards + (t .produced + t .deliveries)
+      ≡ pairs n + t .forwards + (f .tally .produced + f .tally .deliveries)
+
+module _ (ev : List ℕ) (h : Bytes ev) (b : Table) (rows : Rows b) where
+  on : (k place : ℕ) (n : Network) (t : Tally) (f : Final) → outcomeAt ev place b n .turned .number ≡ 0
+      → Keeps k (place + 1) (outcomeAt ev place b n .network) (tallyAfter (outcomeAt ev place b n) t) f → Keeps (suc k) place n t f
+  on k place n t f e ih =
+      record {
+        sound = λ s. ih .sound (next s);
+        balance = λ s.
+            omega (
+              arith,
+              ih .balance (next s),
+              turn-pairs s rows (readAt ev place) (reads-fit ev h place) e,
+              tallied-produced t kind d,
+              tallied-forwards t kind d,
+              tallied-deliveries t kind d (turn-delivers b n (readAt ev place)),
+            );
+      }
+    where
+      kind : ℕ
+      kind = outcomeAt ev place b n .turned .kind
+
+      d : ℕ
+      d = outcomeAt ev place b n .turned .deliveries
+
+      next : Sound n → Sound (outcomeAt ev place b n .network)
+      next s = turn-sound s rows (readAt ev place) (reads-fit ev h place)
+
+  pub run-keeps : (k place : ℕ) (n : Network) (t : Tally) → Keeps k place n t (runFrom k ev place b n t)
+  run-keeps =
+      run-ind ev b Keeps
+      (λ place n t. record { sound = λ s. s; balance = λ s. omega arith })
+      (λ k place n t z. record { sound = λ s. s; balance = λ s. omega arith })
+      on

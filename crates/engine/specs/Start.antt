@@ -1,0 +1,33 @@
+-- What every entry point tests before it begins (document 01, "Numbers returned"): "1 to 5 are tested in that order before any
+-- event". An entry point without events passes 0 for their length, and is never refused by 3. Assumes nothing.
+use mathlib.Core.Bool.{Bool, cond}
+use mathlib.Core.List.{List}
+use Prim.Native.Nat.{ℕ, _%_}
+use lib.Dec.{eqb}
+use lib.ListN.{length}
+use Rattle.network.specs.declared.Network.{Network}
+use Rattle.network.specs.declared.Table.{Table}
+use Rattle.network.specs.State.{openOf}
+use Rattle.network.specs.State.{blankNet}
+use Rattle.network.specs.Rows.{listOf, blankTable}
+use Rattle.engine.specs.declared.Begun.{Begun}
+
+-- refused by a number at a place: nothing was read
+abbrev pub refusedAt : ℕ → ℕ → Begun
+refusedAt number place = record { number = number; place = place; network = blankNet; table = blankTable }
+
+-- "1 state isn't 5,120 bytes; 2 message table isn't 256 bytes; 3 event bytes aren't a multiple of 16; 4 a message row has topic or
+-- origin above 31, or bytes 2-3 not zero (lowest such row); 5 state unsound (lowest unsound record)"
+unfoldable pub beginOf : List ℕ → List ℕ → ℕ → Begun
+beginOf s t events =
+    cond (eqb (length s) 5120)
+    (cond (eqb (length t) 256)
+    (cond (eqb (events % 16) 0)
+    (cond (eqb (listOf t .number) 0)
+    (cond (eqb (openOf s .number) 0)
+    (record { number = 0; place = 0; network = openOf s .network; table = listOf t .table })
+    (refusedAt 5 (openOf s .place)))
+    (refusedAt 4 (listOf t .place)))
+    (refusedAt 3 0))
+    (refusedAt 2 0))
+    (refusedAt 1 0)

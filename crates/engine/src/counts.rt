@@ -1,0 +1,50 @@
+// The tally: an update by value, and the same on the three counts of a record that is lent.
+ghost use mathlib.Core.Path.{_≡_};
+ghost use Rattle.engine.specs.Run.{talliedOf, tally, Room};
+
+use crate::Tally;
+
+// One event more: kind 1 is a produce, 2 a forward.
+pub(crate) fn tallied(t: Tally, kind: u8, deliveries: u32) -> Tally
+    requires { ⌜ Room t deliveries ⌝ }
+    ensures { λ r. ⌜ r ≡ talliedOf t kind deliveries ⌝ }
+{
+    match kind {
+        1 => Tally {
+            produced: t.produced + 1,
+            forwards: t.forwards,
+            deliveries: t.deliveries,
+        },
+        2 => Tally {
+            produced: t.produced,
+            forwards: t.forwards + 1,
+            deliveries: t.deliveries + deliveries as u64,
+        },
+        _ => t,
+    }
+}
+
+// The same on counts that are lent.
+pub(crate) fn count_in(
+    produced: &mut u64,
+    forwards: &mut u64,
+    deliveries: &mut u64,
+    kind: u8,
+    count: u32,
+)
+    requires { ⌜ Room (tally (now produced) (now forwards) (now deliveries)) count ⌝ }
+    ensures { λ z. ⌜ tally (now (produced .exit)) (now (forwards .exit)) (now (deliveries .exit)) ≡ talliedOf (tally (now (produced .entry)) (now (forwards .entry)) (now (deliveries .entry))) kind count ⌝ }
+{
+    let t = tallied(
+        Tally {
+            produced: *produced,
+            forwards: *forwards,
+            deliveries: *deliveries,
+        },
+        kind,
+        count,
+    );
+    *produced = t.produced;
+    *forwards = t.forwards;
+    *deliveries = t.deliveries;
+}

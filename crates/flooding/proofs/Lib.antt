@@ -1,0 +1,10 @@
+pub mod Run
+pub mod Round
+pub mod Levels
+pub mod Count
+pub mod Course
+pub mod Tally
+pub mod Floods
+pub mod Drain
+pub mod Settled
+pub mod Examples

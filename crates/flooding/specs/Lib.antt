@@ -1,0 +1,6 @@
+pub mod Network
+pub mod Counts
+pub mod Machine
+pub mod Page
+pub mod Loop
+pub mod Image

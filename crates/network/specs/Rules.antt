@@ -1,0 +1,68 @@
+-- Soundness, record by record and rule by rule in document 01's order ("Records"). Assumes nothing.
+--   "A fault belongs to the record p under test: if p lists q but q doesn't list p, p is unsound on that ground and q isn't."
+-- So each rule is a test of one record p of a network; h is the number that the record's first four bytes make.
+use mathlib.Core.Bool.{Bool, true, false, cond, not, _&&_, _||_}
+use Prim.Native.Nat.{ℕ}
+use lib.Dec.{eqb, ltb}
+use Rattle.sets.specs.Set.{meet, minus, setOf, digit}
+use Rattle.sets.specs.Any.{all}
+use Rattle.sets.specs.Least.{lowestOf}
+use Rattle.network.specs.declared.Peer.{Peer}
+use Rattle.network.specs.declared.Network.{Network}
+use Rattle.network.specs.Network.{peer, topic, pubsOf, subsOf, neighboursOf, pendingOf, seenOf, knownOf, present, subscribed, linked}
+
+-- "byte 0 is 0 or 1 and bytes 1-3 are zero": the four bytes, little-endian, make 0 or 1
+abbrev pub headRight : ℕ → Bool
+headRight h = ltb h 2
+
+-- "if absent, all its bytes are zero"
+unfoldable pub emptyRight : Network → Peer → Bool
+emptyRight n p =
+    eqb (pubsOf n p) 0 && (eqb (subsOf n p) 0 && (eqb (neighboursOf n p) 0 && (eqb (pendingOf n p) 0 && (eqb (seenOf n p) 0 && all 32 (λ (t : ℕ). eqb (knownOf n p (topic t)) 0)))))
+
+-- "p isn't its own neighbour"
+unfoldable pub ownRight : Network → Peer → Bool
+ownRight n p = not (linked n p p)
+
+-- "each neighbour q is present": none is among the absent
+unfoldable pub nearRight : Network → Peer → Bool
+nearRight n p = eqb (minus (neighboursOf n p) (n .present)) 0
+
+-- "and lists p"
+unfoldable pub backRight : Network → Peer → Bool
+backRight n p = all 32 (λ (q : ℕ). not (linked n p (peer q)) || linked n (peer q) p)
+
+-- "for every topic t, the known subscribers are exactly the neighbours subscribed to t"
+unfoldable pub knownRight : Network → Peer → Bool
+knownRight n p =
+    all 32 (λ (t : ℕ). eqb (knownOf n p (topic t)) (setOf 32 (λ (q : ℕ). linked n p (peer q) && subscribed n (peer q) (topic t))))
+
+-- "pending and seen share no message"
+unfoldable pub apartRight : Network → Peer → Bool
+apartRight n p = eqb (meet (pendingOf n p) (seenOf n p)) 0
+
+-- a rule and its number: where the rule holds, what comes after it decides
+abbrev pub unless : Bool → ℕ → ℕ → ℕ
+unless true k rest = rest
+unless false k rest = k
+
+-- The first rule that fails, and 0 where none does: 1 presence byte and zero bytes, 2 absent and not empty, 3 own neighbour,
+-- 4 a neighbour absent, 5 a neighbour that doesn't list back, 6 known subscribers wrong, 7 pending also seen.
+unfoldable pub faultOf : ℕ → Network → Peer → ℕ
+faultOf h n p =
+    unless (headRight h) 1
+    (cond (eqb h 0)
+    (unless (emptyRight n p) 2 0)
+    (unless (ownRight n p) 3 (unless (nearRight n p) 4 (unless (backRight n p) 5 (unless (knownRight n p) 6 (unless (apartRight n p) 7 0))))))
+
+-- "A peer is present when byte 0 is 1": the first word of p's record as it is written
+abbrev pub headOf : Network → Peer → ℕ
+headOf n p = digit (present n p)
+
+-- the fault of p's record in the working state, whose first word can't be wrong
+abbrev pub faultIn : Network → Peer → ℕ
+faultIn n p = faultOf (headOf n p) n p
+
+-- "lowest unsound record", 32 where there is none
+unfoldable pub lowestFault : Network → ℕ
+lowestFault n = lowestOf 32 (λ (p : ℕ). not (eqb (faultIn n (peer p)) 0))

@@ -1,0 +1,102 @@
+-- A state as bytes (document 01, "Records"): 32 records of 160 bytes, read as 40 words of 4 bytes each. Assumes nothing.
+--   "numbers are little-endian"; "A state is 32 peer records, 5,120 bytes"; a peer record has "0 present (0 or 1); 1-3 zero;
+--   4-7 pubs; 8-11 subs; 12-15 neighbours; 16-23 pending; 24-31 seen; 32-159 known subscribers for topics 0 to 31, 4 bytes each".
+-- So word 0 of a record is its head, 1 pubs, 2 subs, 3 neighbours, 4-5 pending, 6-7 seen, 8-39 known subscribers.
+use mathlib.Core.Bool.{Bool, cond, not}
+use mathlib.Core.List.{List}
+use Prim.Native.Nat.{ℕ, zero, suc, _+_, _*_, _/_, _%_, _^_}
+use lib.Dec.{eqb, ltb}
+use lib.ListN.{length, replicate}
+use Rattle.sets.specs.Set.{setOf}
+use Rattle.sets.specs.Least.{lowestOf}
+use Rattle.lists.specs.Tab.{tab}
+use Rattle.endian.specs.Le.{le}
+use Rattle.network.specs.declared.Peer.{Peer}
+use Rattle.network.specs.declared.Network.{Network}
+use Rattle.network.specs.declared.Opened.{Opened}
+use Rattle.network.specs.declared.Wrote.{Wrote}
+use Rattle.network.specs.Network.{peer, topic, mk, pubsOf, subsOf, neighboursOf, pendingOf, seenOf, knownOf}
+use Rattle.network.specs.Rules.{faultOf, headOf, lowestFault}
+
+-- ---- reading
+
+-- word j of the state, and word j of record p; where a number has 8 bytes, the two words from j on
+unfoldable pub word : List ℕ → ℕ → ℕ
+word b j = le 4 b (4 * j)
+
+abbrev pub wordIn : List ℕ → ℕ → ℕ → ℕ
+wordIn b p j = word b (40 * p + j)
+
+unfoldable pub long : List ℕ → ℕ → ℕ
+long b j = le 8 b (4 * j)
+
+abbrev pub longIn : List ℕ → ℕ → ℕ → ℕ
+longIn b p j = long b (40 * p + j)
+
+-- the network that the words say
+unfoldable pub netOf : List ℕ → Network
+netOf b =
+    mk
+    (setOf 32 (λ (p : ℕ). eqb (wordIn b p 0) 1))
+    (tab 32 (λ (p : ℕ). wordIn b p 1))
+    (tab 32 (λ (p : ℕ). wordIn b p 2))
+    (tab 32 (λ (p : ℕ). wordIn b p 3))
+    (tab 32 (λ (p : ℕ). longIn b p 4))
+    (tab 32 (λ (p : ℕ). longIn b p 6))
+    (tab 1024 (λ (i : ℕ). wordIn b (i / 32) (8 + i % 32)))
+
+-- the fault of record p, and the "lowest unsound record", 32 where there is none
+abbrev pub faultAt : List ℕ → Peer → ℕ
+faultAt b p = faultOf (wordIn b (p .0) 0) (netOf b) p
+
+unfoldable pub unsoundAt : List ℕ → ℕ
+unsoundAt b = lowestOf 32 (λ (p : ℕ). not (eqb (faultAt b (peer p)) 0))
+
+-- "A blank network is 5,120 zero bytes."
+unfoldable pub blankNet : Network
+blankNet = mk 0 (replicate 32 0) (replicate 32 0) (replicate 32 0) (replicate 32 0) (replicate 32 0) (replicate 1024 0)
+
+abbrev pub opened : ℕ → ℕ → Network → Opened
+opened number place n = record { number = number; place = place; network = n }
+
+-- "Reading and writing refuse by 1, then 5, and by nothing else; a refused read answers the blank state"
+unfoldable pub openOf : List ℕ → Opened
+openOf b =
+    cond (eqb (length b) 5120)
+    (cond (ltb (unsoundAt b) 32) (opened 5 (unsoundAt b) blankNet) (opened 0 0 (netOf b)))
+    (opened 1 0 blankNet)
+
+-- ---- writing
+
+-- word j of p's record
+unfoldable pub wordAt : Network → Peer → ℕ → ℕ
+wordAt n p zero = headOf n p
+wordAt n p (suc zero) = pubsOf n p
+wordAt n p (suc (suc zero)) = subsOf n p
+wordAt n p (suc (suc (suc zero))) = neighboursOf n p
+wordAt n p (suc (suc (suc (suc zero)))) = pendingOf n p % 2 ^ 32
+wordAt n p (suc (suc (suc (suc (suc zero))))) = pendingOf n p / 2 ^ 32
+wordAt n p (suc (suc (suc (suc (suc (suc zero)))))) = seenOf n p % 2 ^ 32
+wordAt n p (suc (suc (suc (suc (suc (suc (suc zero))))))) = seenOf n p / 2 ^ 32
+wordAt n p (suc (suc (suc (suc (suc (suc (suc (suc t)))))))) = knownOf n p (topic t)
+
+-- word j of the state
+unfoldable pub wordOf : Network → ℕ → ℕ
+wordOf n j = wordAt n (peer (j / 40)) (j % 40)
+
+-- byte i of the state, and all of them
+unfoldable pub byteOf : Network → ℕ → ℕ
+byteOf n i = wordOf n (i / 4) / 256 ^ (i % 4) % 256
+
+unfoldable pub bytesOf : Network → List ℕ
+bytesOf n = tab 5120 (byteOf n)
+
+abbrev pub wrote : ℕ → ℕ → Wrote
+wrote number place = record { number = number; place = place }
+
+-- the answer, and the buffer afterwards: "a refused write leaves its buffer untouched"
+unfoldable pub writeOf : Network → List ℕ → Wrote
+writeOf n b = cond (eqb (length b) 5120) (cond (ltb (lowestFault n) 32) (wrote 5 (lowestFault n)) (wrote 0 0)) (wrote 1 0)
+
+unfoldable pub writtenOf : Network → List ℕ → List ℕ
+writtenOf n b = cond (eqb (length b) 5120) (cond (ltb (lowestFault n) 32) b (bytesOf n)) b

@@ -16,6 +16,7 @@ pub need-fails : (b : Bool) (k r : ℕ) → b ≡ false → k ≡ need b k r
 unfolding need
 need-fails b k r e = ap (λ (x : Bool). need x k r) (sym e)
 
+-- a condition that holds
 pub need-holds : (b : Bool) (k r : ℕ) {x : ℕ} → b ≡ true → x ≡ r → x ≡ need b k r
 unfolding need
 need-holds b k r e h = h ∙ ap (λ (x : Bool). need x k r) (sym e)
@@ -24,6 +25,7 @@ need-holds b k r e h = h ∙ ap (λ (x : Bool). need x k r) (sym e)
 pub test-fails : {r t : Bool} → r ≡ t → not r ≡ true → t ≡ false
 test-fails {r} h e = sym h ∙ not-true r e
 
+-- the test `!r` is false: t is true
 pub test-holds : {r t : Bool} → r ≡ t → not r ≡ false → t ≡ true
 test-holds {r} h e = sym h ∙ not-false r e
 
@@ -31,6 +33,7 @@ test-holds {r} h e = sym h ∙ not-false r e
 pub test-bars : {r t : Bool} → r ≡ t → r ≡ true → not t ≡ false
 test-bars h e = ap not (sym h ∙ e)
 
+-- the test `r` is false: t is false
 pub test-frees : {r t : Bool} → r ≡ t → r ≡ false → not t ≡ true
 test-frees h e = ap not (sym h ∙ e)
 
@@ -38,6 +41,7 @@ test-frees h e = ap not (sym h ∙ e)
 pub some-fails : {w x : ℕ} → w ≡ x → (w ≡ 0 → ⊥) → eqb x 0 ≡ false
 some-fails {w} {x} h e = ne-eqb x 0 (λ (z : x ≡ 0). e (h ∙ z))
 
+-- the test `w != 0` is false: x is nothing
 pub none-holds : {w x : ℕ} → w ≡ x → w ≡ 0 → eqb x 0 ≡ true
 none-holds {w} {x} h e = eq-eqb x 0 (sym h ∙ e)
 

@@ -40,6 +40,7 @@ pub record Along (s left : ℕ) (f : ℕ → ℕ → ℕ → ℕ) (l₀ l : List
   pub within : Subset left s
   pub made : l ≡ edit (f (minus s left)) l₀
 
+-- before the first turn
 pub along-none : (s : ℕ) (f : ℕ → ℕ → ℕ → ℕ) (l : List ℕ) → s < 2 ^ 32 → ((i x : ℕ) → f 0 i x ≡ x) → Along s s f l l
 along-none s f l b h = record {
   below = b;
@@ -62,6 +63,7 @@ along-more {s} {left} {left′} {q} {f} {l₀} {l} {l′} a p eq el e = record {
     gone : left′ ≡ minus left (only q)
     gone = el ∙ ap (λ (x : ℕ). minus left (only x)) (sym eq)
 
+-- after the last turn
 pub along-done : {s left : ℕ} {f : ℕ → ℕ → ℕ → ℕ} {l₀ l : List ℕ} → Along s left f l₀ l → left ≡ 0 → l ≡ edit (f s) l₀
 along-done {s} {left} {f} {l₀} {l} a e = a .made ∙ ap (λ (v : ℕ). edit (f v) l₀) (ap (minus s) e ∙ minus-none s)
 

@@ -4,3 +4,11 @@ pub mod RunLaws
 pub mod RunStops
 pub mod RunCounts
 pub mod RunSound
+pub mod Going
+pub mod RunBefore
+pub mod Alone
+pub mod StartLaws
+pub mod AloneLaws
+pub mod TurnLaws
+pub mod Looping
+pub mod RunEnds

@@ -3,6 +3,7 @@
 --   holds the state after the accepted events."
 --   "The host lends a tally record that the engine updates event by event: produced, forwards, deliveries, 64 bits each. It
 --   starts from zero in each run that gets past 5."
+use mathlib.Core.Path.{_≡_}
 use mathlib.Core.Bool.{Bool, true, false, cond}
 use mathlib.Core.List.{List}
 use Prim.Native.Nat.{ℕ, zero, suc, _+_, _/_, _^_, _<_}
@@ -15,10 +16,11 @@ use Rattle.events.specs.declared.Read.{Read}
 use Rattle.events.specs.declared.Read.the-variants.{Taken, End, Refused}
 use Rattle.events.specs.Event.{readAt}
 use Rattle.floodnet.specs.declared.Turned.{Turned}
-use Rattle.floodnet.specs.Step.{after, turnedOf, refusedBy}
+use Rattle.floodnet.specs.Step.{after, turnedOf}
 use Rattle.engine.specs.declared.Tally.{Tally}
 use Rattle.engine.specs.declared.Answer.{Answer}
 use Rattle.engine.specs.declared.Begun.{Begun}
+use Rattle.engine.specs.declared.Ran.{Ran}
 use Rattle.engine.specs.Start.{beginOf}
 
 -- ---- the tally
@@ -46,6 +48,10 @@ talliedOf t kind d =
 pub record Outcome : Type 0 where
   pub turned : Turned
   pub network : Network
+
+-- nothing was done: refused by a number, or nothing was there (0)
+abbrev pub refusedBy : ℕ → Turned
+refusedBy number = record { number = number; kind = 0; deliveries = 0 }
 
 -- what was read is done, or refused by 6 or 7
 unfoldable pub turnOf : Table → Network → Read → Outcome
@@ -81,6 +87,12 @@ runFrom (suc k) ev place b n t =
 unfoldable pub runAll : List ℕ → Table → Network → Final
 runAll ev b n = runFrom (length ev / 16) ev 0 b n zeroTally
 
+-- what a function that runs events answers and leaves
+pub record RunsTo (r : Ran) (t : Tally) (f : Final) : Type 0 where
+  pub answer : r .answer ≡ f .answer
+  pub network : r .network ≡ f .network
+  pub tally : t ≡ f .tally
+
 -- ---- the whole: bytes in, bytes out
 
 -- how the entry point ends: the answer, the tally and the state's bytes
@@ -100,3 +112,9 @@ unfoldable pub runOf : List ℕ → List ℕ → List ℕ → Tally → Ending
 runOf s t ev old =
     let g = beginOf s t (length ev) in
     cond (eqb (g .number) 0) (written (runAll ev (g .table) (g .network))) (untouched g old s)
+
+-- what an entry point that runs events answers and leaves: its answer, the state's bytes and the tally
+pub record Ends (r : Answer) (s : List ℕ) (t : Tally) (e : Ending) : Type 0 where
+  pub answer : r ≡ e .answer
+  pub state : s ≡ e .state
+  pub tally : t ≡ e .tally

@@ -16,7 +16,7 @@ use Rattle.network.specs.declared.Table.{Table}
 use Rattle.events.specs.declared.Read.{Read}
 use Rattle.events.specs.declared.Read.the-variants.{Taken, End, Refused}
 use Rattle.events.specs.Event.{readAt}
-use Rattle.floodnet.specs.Step.{refusal, kindOf, turnedOf, after, delivers, refusedBy}
+use Rattle.floodnet.specs.Step.{refusal, kindOf, deliveriesOf, turned, turnedOf}
 use Rattle.floodnet.specs.declared.Turned.{Turned}
 use Rattle.engine.specs.declared.Tally.{Tally}
 use Rattle.engine.specs.Run.{tally, talliedOf, turnOf, Final, stopsAt, allDone, runFrom}
@@ -37,14 +37,12 @@ kinds ev kind place count-of = count count-of (λ i. eqb (kindAt ev (place + i))
 
 -- an accepted event counts as its kind
 accepted-kind : (b : Table) (n : Network) (r : Read) → turnOf b n r .turned .number ≡ 0 → turnOf b n r .turned .kind ≡ kindIn r
-unfolding turnOf kindIn turnedOf
-accepted-kind b n (Taken e) h = first (eqb (refusal n b e) 0) refl h
+unfolding turnOf kindIn turnedOf turned
+accepted-kind b n (Taken e) h = first (refusal n b e) h
   where
-    first : (x : Bool) → eqb (refusal n b e) 0 ≡ x
-        → (cond x (record { number = 0; kind = kindOf e; deliveries = delivers n b e }) (refusedBy (refusal n b e))) .number ≡ 0
-        → (cond x (record { number = 0; kind = kindOf e; deliveries = delivers n b e }) (refusedBy (refusal n b e))) .kind ≡ kindOf e
-    first true z k = refl
-    first false z k = absurd (eqb-false (refusal n b e) 0 z k)
+    first : (k : ℕ) → turned k (kindOf e) (deliveriesOf n b e) .number ≡ 0 → turned k (kindOf e) (deliveriesOf n b e) .kind ≡ kindOf e
+    first zero z = refl
+    first (suc k) z = absurd (omega arith)
 accepted-kind b n End h = refl
 accepted-kind b n (Refused k) h = refl
 

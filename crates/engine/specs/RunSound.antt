@@ -23,7 +23,7 @@ use Rattle.events.specs.declared.Read.the-variants.{Taken, End, Refused}
 use Rattle.events.specs.Event.{readAt}
 use Rattle.events.specs.Fits.{EventFits}
 use Rattle.events.specs.RoundTrip.{read-fits}
-use Rattle.floodnet.specs.Step.{refusal, effect, after, kindOf, delivers, turnedOf, refusedBy}
+use Rattle.floodnet.specs.Step.{refusal, effect, ifAccepted, after, kindOf, deliveriesOf, turned, turnedOf}
 use Rattle.floodnet.specs.StepLaws.{after-sound, effect-pairs, isKind}
 use Rattle.floodnet.specs.View.{pairs}
 use Rattle.floodnet.specs.declared.Turned.{Turned}
@@ -59,22 +59,22 @@ turn-sound s rows (Refused k) f = s
 turn-pairs : {b : Table} {n : Network} → Sound n → Rows b → (r : Read) → ReadFits r → turnOf b n r .turned .number ≡ 0
     → pairs (turnOf b n r .network) + digit (eqb (turnOf b n r .turned .kind) 2)
     ≡ pairs n + (digit (eqb (turnOf b n r .turned .kind) 1) + turnOf b n r .turned .deliveries)
-unfolding turnOf ReadFits turnedOf after
-turn-pairs {b} {n} s rows (Taken e) f h = first (eqb (refusal n b e) 0) refl h
+unfolding turnOf ReadFits turnedOf turned after ifAccepted
+turn-pairs {b} {n} s rows (Taken e) f h = first (refusal n b e) refl h
   where
-    answer : Bool → Turned
-    answer x = cond x (record { number = 0; kind = kindOf e; deliveries = delivers n b e }) (refusedBy (refusal n b e))
+    answer : ℕ → Turned
+    answer k = turned k (kindOf e) (deliveriesOf n b e)
 
-    first : (x : Bool) → eqb (refusal n b e) 0 ≡ x → answer x .number ≡ 0
-        → pairs (cond x (effect n b e) n) + digit (eqb (answer x .kind) 2) ≡ pairs n + (digit (eqb (answer x .kind) 1) + answer x .deliveries)
-    first true z k = effect-pairs s rows e f (eqb-true _ _ z)
-    first false z k = absurd (eqb-false (refusal n b e) 0 z k)
+    first : (k : ℕ) → refusal n b e ≡ k → answer k .number ≡ 0
+        → pairs (ifAccepted k (effect n b e) n) + digit (eqb (answer k .kind) 2) ≡ pairs n + (digit (eqb (answer k .kind) 1) + answer k .deliveries)
+    first zero z i = effect-pairs s rows e f z
+    first (suc k) z i = absurd (omega arith)
 turn-pairs s rows End f h = refl
 turn-pairs s rows (Refused k) f h = refl
 
 -- an event that is no forward delivers nothing
-event-delivers : (n : Network) (b : Table) (e : Event) → (kindOf e ≡ 2) ⊎ (delivers n b e ≡ 0)
-unfolding kindOf delivers
+event-delivers : (n : Network) (b : Table) (e : Event) → (kindOf e ≡ 2) ⊎ (deliveriesOf n b e ≡ 0)
+unfolding kindOf deliveriesOf
 event-delivers n b Skip = inr refl
 event-delivers n b (Produce p m) = inr refl
 event-delivers n b (Forward p m) = inl refl
@@ -84,15 +84,12 @@ event-delivers n b (Leave p) = inr refl
 event-delivers n b (Join p j) = inr refl
 
 turn-delivers : (b : Table) (n : Network) (r : Read) → (turnOf b n r .turned .kind ≡ 2) ⊎ (turnOf b n r .turned .deliveries ≡ 0)
-unfolding turnOf turnedOf
-turn-delivers b n (Taken e) = first (eqb (refusal n b e) 0)
+unfolding turnOf turnedOf turned
+turn-delivers b n (Taken e) = first (refusal n b e)
   where
-    answer : Bool → Turned
-    answer x = cond x (record { number = 0; kind = kindOf e; deliveries = delivers n b e }) (refusedBy (refusal n b e))
-
-    first : (x : Bool) → (answer x .kind ≡ 2) ⊎ (answer x .deliveries ≡ 0)
-    first true = event-delivers n b e
-    first false = inr refl
+    first : (k : ℕ) → (turned k (kindOf e) (deliveriesOf n b e) .kind ≡ 2) ⊎ (turned k (kindOf e) (deliveriesOf n b e) .deliveries ≡ 0)
+    first zero = event-delivers n b e
+    first (suc k) = inr refl
 turn-delivers b n End = inr refl
 turn-delivers b n (Refused k) = inr refl
 

@@ -1,7 +1,6 @@
--- The seven events together, as 01's table: what refuses each, and what each does. Assumes nothing.
-use mathlib.Core.Bool.{Bool, cond}
-use Prim.Native.Nat.{ℕ}
-use lib.Dec.{eqb}
+-- One event on a network, as document 01's table has it: by what number it is refused, what it does, the network after it, and
+-- what is answered. Assumes nothing.
+use Prim.Native.Nat.{ℕ, zero, suc}
 use Rattle.network.specs.declared.Network.{Network}
 use Rattle.network.specs.declared.Table.{Table}
 use Rattle.events.specs.declared.Event.{Event}
@@ -13,7 +12,7 @@ use Rattle.floodnet.specs.Topics.{subscribedTo, unsubscribedFrom}
 use Rattle.floodnet.specs.Links.{left, joined}
 use Rattle.floodnet.specs.Refusals.{refusalProduce, refusalForward, refusalTopics, refusalLeave, refusalJoin}
 
--- 0, or the number of the first condition that fails
+-- the number of the first condition that fails, or 0
 unfoldable pub refusal : Network → Table → Event → ℕ
 refusal n b Skip = 0
 refusal n b (Produce p m) = refusalProduce n b p m
@@ -23,7 +22,7 @@ refusal n b (Unsubscribe p topics) = refusalTopics n p
 refusal n b (Leave p) = refusalLeave n p
 refusal n b (Join p j) = refusalJoin n p (j .neighbours)
 
--- the network after an event that is accepted
+-- what an accepted event does
 unfoldable pub effect : Network → Table → Event → Network
 effect n b Skip = n
 effect n b (Produce p m) = produced n p m
@@ -33,11 +32,16 @@ effect n b (Unsubscribe p topics) = unsubscribedFrom n p topics
 effect n b (Leave p) = left n p
 effect n b (Join p j) = joined n p (j .subs) (j .pubs) (j .neighbours)
 
--- the network after an event: as it was, where the event is refused
-unfoldable pub after : Network → Table → Event → Network
-after n b e = cond (eqb (refusal n b e) 0) (effect n b e) n
+-- x where nothing was refused, else n
+unfoldable pub ifAccepted : ℕ → Network → Network → Network
+ifAccepted zero x n = x
+ifAccepted (suc k) x n = n
 
--- what an event counts as, and what it delivers
+-- the network after the event; a refused event changes nothing
+unfoldable pub after : Network → Table → Event → Network
+after n b e = ifAccepted (refusal n b e) (effect n b e) n
+
+-- the kinds that the tally counts: 1 produce, 2 forward, 0 any other
 unfoldable pub kindOf : Event → ℕ
 kindOf Skip = 0
 kindOf (Produce p m) = 1
@@ -47,18 +51,20 @@ kindOf (Unsubscribe p topics) = 0
 kindOf (Leave p) = 0
 kindOf (Join p j) = 0
 
-unfoldable pub delivers : Network → Table → Event → ℕ
-delivers n b Skip = 0
-delivers n b (Produce p m) = 0
-delivers n b (Forward p m) = deliveries n b p m
-delivers n b (Subscribe p topics) = 0
-delivers n b (Unsubscribe p topics) = 0
-delivers n b (Leave p) = 0
-delivers n b (Join p j) = 0
+-- how many deliveries an accepted event makes
+unfoldable pub deliveriesOf : Network → Table → Event → ℕ
+deliveriesOf n b Skip = 0
+deliveriesOf n b (Produce p m) = 0
+deliveriesOf n b (Forward p m) = deliveries n b p m
+deliveriesOf n b (Subscribe p topics) = 0
+deliveriesOf n b (Unsubscribe p topics) = 0
+deliveriesOf n b (Leave p) = 0
+deliveriesOf n b (Join p j) = 0
 
--- what an event answers: refused by a number, or its kind and deliveries
-abbrev pub refusedBy : ℕ → Turned
-refusedBy number = record { number = number; kind = 0; deliveries = 0 }
+-- the answer: the number, and what the event counts for; a refused event counts for nothing
+unfoldable pub turned : ℕ → ℕ → ℕ → Turned
+turned zero kind d = record { number = 0; kind = kind; deliveries = d }
+turned (suc k) kind d = record { number = suc k; kind = 0; deliveries = 0 }
 
 unfoldable pub turnedOf : Network → Table → Event → Turned
-turnedOf n b e = cond (eqb (refusal n b e) 0) (record { number = 0; kind = kindOf e; deliveries = delivers n b e }) (refusedBy (refusal n b e))
+turnedOf n b e = turned (refusal n b e) (kindOf e) (deliveriesOf n b e)

@@ -2,7 +2,7 @@
 -- event does to the pairs pending. Assumes nothing.
 use mathlib.Core.Path.{_≡_, refl, sym, ap, subst, _∙_}
 use mathlib.Core.Bool.{Bool, true, false, not, cond}
-use Prim.Native.Nat.{ℕ, suc, _+_, _^_, _<_}
+use Prim.Native.Nat.{ℕ, zero, suc, _+_, _^_, _<_}
 use native.Mathlib.Omega.{arith}
 use lib.Dec.{eqb}
 use lib.ListN.{set}
@@ -25,7 +25,7 @@ use Rattle.floodnet.specs.Links.{left, linkDown, cleared}
 use Rattle.floodnet.specs.Topics.{subscribedTo, unsubscribedFrom}
 use Rattle.floodnet.specs.Forward.{deliveries}
 use Rattle.floodnet.specs.Refusals.{need, refusalProduce, refusalForward, refusalTopics, refusalLeave, refusalJoin}
-use Rattle.floodnet.specs.Step.{refusal, effect, after, kindOf, delivers}
+use Rattle.floodnet.specs.Step.{refusal, effect, ifAccepted, after, kindOf, deliveriesOf}
 use Rattle.floodnet.specs.ProduceLaws.{produced-sound, new-why}
 use Rattle.floodnet.specs.ForwardLaws.{forwarded-sound}
 use Rattle.floodnet.specs.TopicsLaws.{subscribed-sound, unsubscribed-sound}
@@ -90,12 +90,12 @@ effect-sound {n} {b} s r (Join p j) f h =
     joined-sound s p (j .subs) (j .pubs) (j .neighbours) (x .0) (f .0) (x .1) (x .2) (f .1) (f .2) (f .3)
 
 pub after-sound : {n : Network} {b : Table} → Sound n → Rows b → (e : Event) → EventFits e → Sound (after n b e)
-unfolding after
-after-sound {n} {b} s r e f = first (eqb (refusal n b e) 0) refl
+unfolding after ifAccepted
+after-sound {n} {b} s r e f = first (refusal n b e) refl
   where
-    first : (x : Bool) → eqb (refusal n b e) 0 ≡ x → Sound (cond x (effect n b e) n)
-    first true h = effect-sound s r e f (eqb-true _ _ h)
-    first false h = s
+    first : (k : ℕ) → refusal n b e ≡ k → Sound (ifAccepted k (effect n b e) n)
+    first zero h = effect-sound s r e f h
+    first (suc k) h = s
 
 -- ---- pairs pending: one more for a produce; one less and its deliveries for a forward; else as before
 
@@ -121,8 +121,8 @@ unfolding unsubscribedFrom
 unsubscribe-keeps n p topics = refl
 
 pub effect-pairs : {n : Network} {b : Table} → Sound n → Rows b → (e : Event) → EventFits e → refusal n b e ≡ 0
-    → pairs (effect n b e) + isKind e 2 ≡ pairs n + (isKind e 1 + delivers n b e)
-unfolding refusal effect EventFits kindOf delivers
+    → pairs (effect n b e) + isKind e 2 ≡ pairs n + (isKind e 1 + deliveriesOf n b e)
+unfolding refusal effect EventFits kindOf deliveriesOf
 effect-pairs {n} {b} s r Skip f h = refl
 effect-pairs {n} {b} s r (Produce p m) f h =
     let x = produce-met n b p m h in

@@ -12,7 +12,7 @@ use events::Event;
 
 mod arrays; // arrays.rt: loops over the words of peers
 mod rows; // rows.rt: loops over the rows of `known`
-pub mod messages; // messages.rt: what produce and forward do; `forward` answers the set of receivers
+pub mod messages; // messages.rt: what produce and forward do; the drain calls forward
 mod links; // links.rt: what subscribe, unsubscribe, leave and join do
 mod refusals; // refusals.rt: what the events ask
 mod turns; // turns.rt: an event of each kind, asked and done

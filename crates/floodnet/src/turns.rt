@@ -2,7 +2,7 @@
 // speaks of a network that has the arrays which the kind touches and nothing else; laws there lift it to the whole network.
 ghost use mathlib.Core.Path.{_≡_};
 ghost use mathlib.Core.List.{[]};
-ghost use Prim.Native.Nat.{_<_};
+ghost use Prim.Native.Nat.{ℕ, _<_};
 ghost use lib.ListN.{getD};
 ghost use Rattle.network.specs.Network.{mk};
 ghost use Rattle.floodnet.specs.Produce.{produced};
@@ -10,7 +10,7 @@ ghost use Rattle.floodnet.specs.Forward.{forwarded, deliveries};
 ghost use Rattle.floodnet.specs.Topics.{subscribedTo, unsubscribedFrom};
 ghost use Rattle.floodnet.specs.Links.{left, joined};
 ghost use Rattle.floodnet.specs.Refusals.{refusalProduce, refusalForward, refusalTopics, refusalLeave, refusalJoin};
-ghost use Rattle.floodnet.specs.Step.{refusedBy};
+ghost use Rattle.floodnet.specs.Step.{turned};
 ghost use Rattle.floodnet.specs.CodeForward.{table};
 ghost use Rattle.floodnet.specs.CodeTurns.{Took};
 use super::Turned;
@@ -23,7 +23,7 @@ use network::Peer;
 
 // The answer to an accepted event.
 pub(crate) fn done(kind: u8, count: u32) -> Turned
-    ensures { λ r. ⌜ r ≡ record { number = 0; kind = kind; deliveries = count } ⌝ }
+    ensures { λ r. ⌜ r ≡ turned 0 kind count ⌝ }
 {
     Turned {
         number: 0,
@@ -34,7 +34,8 @@ pub(crate) fn done(kind: u8, count: u32) -> Turned
 
 // The answer to a refused event: it counts for nothing.
 fn refused(number: u8) -> Turned
-    ensures { λ r. ⌜ r ≡ refusedBy number ⌝ }
+    requires { ⌜ 0 < number ⌝ }
+    ensures { λ r. ⌜ ((kind count : ℕ) → r ≡ turned number kind count) ⌝ }
 {
     Turned {
         number,

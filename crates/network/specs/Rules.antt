@@ -2,8 +2,10 @@
 --   "A fault belongs to the record p under test: if p lists q but q doesn't list p, p is unsound on that ground and q isn't."
 -- So each rule is a test of one record p of a network; h is the number that the record's first four bytes make.
 use mathlib.Core.Bool.{Bool, true, false, cond, not, _&&_, _||_}
+use mathlib.Core.List.{List}
 use Prim.Native.Nat.{ℕ}
 use lib.Dec.{eqb, ltb}
+use lib.ListN.{getD}
 use Rattle.sets.specs.Set.{meet, minus, setOf, digit}
 use Rattle.sets.specs.Any.{all}
 use Rattle.sets.specs.Least.{lowestOf}
@@ -48,12 +50,21 @@ unless false k rest = k
 
 -- The first rule that fails, and 0 where none does: 1 presence byte and zero bytes, 2 absent and not empty, 3 own neighbour,
 -- 4 a neighbour absent, 5 a neighbour that doesn't list back, 6 known subscribers wrong, 7 pending also seen.
+unfoldable pub absentFault : Network → Peer → ℕ
+absentFault n p = unless (emptyRight n p) 2 0
+
+unfoldable pub presentFault : Network → Peer → ℕ
+presentFault n p = unless (ownRight n p) 3 (unless (nearRight n p) 4 (unless (backRight n p) 5 (unless (knownRight n p) 6 (unless (apartRight n p) 7 0))))
+
 unfoldable pub faultOf : ℕ → Network → Peer → ℕ
-faultOf h n p =
-    unless (headRight h) 1
-    (cond (eqb h 0)
-    (unless (emptyRight n p) 2 0)
-    (unless (ownRight n p) 3 (unless (nearRight n p) 4 (unless (backRight n p) 5 (unless (knownRight n p) 6 (unless (apartRight n p) 7 0))))))
+faultOf h n p = unless (headRight h) 1 (cond (eqb h 0) (absentFault n p) (presentFault n p))
+
+-- record p has a fault, the first words of all records being `heads`; and the "lowest unsound record", 32 where there is none
+unfoldable pub faulty : List ℕ → Network → ℕ → Bool
+faulty heads n p = not (eqb (faultOf (getD heads p 0) n (peer p)) 0)
+
+unfoldable pub lowestBy : List ℕ → Network → ℕ
+lowestBy heads n = lowestOf 32 (faulty heads n)
 
 -- "A peer is present when byte 0 is 1": the first word of p's record as it is written
 abbrev pub headOf : Network → Peer → ℕ

@@ -33,6 +33,10 @@ long b j = le 8 b (4 * j)
 abbrev pub longIn : List ℕ → ℕ → ℕ → ℕ
 longIn b p j = long b (40 * p + j)
 
+-- where the known subscribers stand: topic t of peer p, at 32 * p + t in the working state, is word 8 + t of record p
+abbrev pub knownIn : List ℕ → ℕ → ℕ
+knownIn b i = wordIn b (i / 32) (8 + i % 32)
+
 -- the network that the words say
 unfoldable pub netOf : List ℕ → Network
 netOf b =
@@ -43,7 +47,7 @@ netOf b =
     (tab 32 (λ (p : ℕ). wordIn b p 3))
     (tab 32 (λ (p : ℕ). longIn b p 4))
     (tab 32 (λ (p : ℕ). longIn b p 6))
-    (tab 1024 (λ (i : ℕ). wordIn b (i / 32) (8 + i % 32)))
+    (tab 1024 (knownIn b))
 
 -- the fault of record p, and the "lowest unsound record", 32 where there is none
 abbrev pub faultAt : List ℕ → Peer → ℕ

@@ -1,7 +1,15 @@
 // The network: its working state, what a sound one is, and how it is read from and written to 5,120 bytes (document 01,
 // "Numbers and state", "Records"). Read specs/Network.antt (the state and what can be observed of it), specs/Rules.antt
 // (soundness, rule by rule), specs/State.antt (the records) and specs/Rows.antt (the message table).
+mod load;
+mod rows;
+mod rules;
+mod store;
+
 ghost use mathlib.Core.Path.{_≡_};
+ghost use lib.ListN.{length};
+ghost use Rattle.network.specs.State.{blankNet, openOf, bytesOf, writeOf, writtenOf};
+ghost use Rattle.network.specs.Rows.{blankTable, listOf};
 
 // "A peer number, a topic number and a message number are separate sorts": none stands where another is meant.
 pub struct Peer(pub u8);
@@ -46,4 +54,95 @@ pub struct Listed {
     pub number: u8,
     pub place: usize,
     pub table: Table,
+}
+
+// The blank network: nobody is present.
+pub fn blank() -> Network
+    ensures { λ r. ⌜ r ≡ blankNet ⌝ }
+{
+    Network {
+        present: 0,
+        pubs: [0u32; 32],
+        subs: [0u32; 32],
+        neighbours: [0u32; 32],
+        pending: [0u64; 32],
+        seen: [0u64; 32],
+        known: [0u32; 1024],
+    }
+}
+
+// The network that the bytes say. Refused by 1, then by 5 with the lowest unsound record, with the blank network.
+pub fn read(state: &[u8]) -> Opened
+    ensures { λ r. ⌜ r ≡ openOf (now (state .entry)) ⌝ }
+{
+    if state.len() != 5120 {
+        return Opened { number: 1, place: 0, network: blank() };
+    }
+    let heads = load::words(state, 0);
+    let pubs = load::words(state, 1);
+    let subs = load::words(state, 2);
+    let neighbours = load::words(state, 3);
+    let pending = load::longs(state, 4);
+    let seen = load::longs(state, 6);
+    let known = load::known(state);
+    let present = rules::ones(&heads);
+    let p = rules::lowest_fault(&heads, present, &pubs, &subs, &neighbours, &pending, &seen, &known);
+    if p < 32 {
+        return Opened { number: 5, place: p, network: blank() };
+    }
+    let network = Network { present, pubs, subs, neighbours, pending, seen, known };
+    Opened { number: 0, place: 0, network }
+}
+
+// Writes the network's bytes.
+pub fn put(n: Network, state: &mut [u8])
+    requires { ⌜ length (now state) ≡ 5120 ⌝ }
+    ensures { λ r. ⌜ now (state .exit) ≡ bytesOf n ⌝ }
+{
+    let mut p: usize = 0;
+    while p < 32 {
+        let head = store::head(n.present, p as u32);
+        store::words(&mut *state, p, head, n.pubs[p], n.subs[p], n.neighbours[p], n.pending[p], n.seen[p]);
+        store::row(&mut *state, &n.known, p);
+        p += 1;
+    }
+}
+
+// Writes the network's bytes, if it is sound. Refused by 1, then by 5 with the lowest unsound record; the buffer stays as it was.
+pub fn write(n: Network, state: &mut [u8]) -> Wrote
+    ensures { λ r. ⌜ (r ≡ writeOf n (now (state .entry))) × (now (state .exit) ≡ writtenOf n (now (state .entry))) ⌝ }
+{
+    if state.len() != 5120 {
+        return Wrote { number: 1, place: 0 };
+    }
+    let heads = store::heads(n.present);
+    let p = rules::lowest_fault(&heads, n.present, &n.pubs, &n.subs, &n.neighbours, &n.pending, &n.seen, &n.known);
+    if p < 32 {
+        return Wrote { number: 5, place: p };
+    }
+    put(n, state);
+    Wrote { number: 0, place: 0 }
+}
+
+// The table that the rows say. Refused by 2, then by 4 with the lowest bad row, with a table of zeros.
+pub fn read_table(table: &[u8]) -> Listed
+    ensures { λ r. ⌜ r ≡ listOf (now (table .entry)) ⌝ }
+{
+    if table.len() != 256 {
+        return Listed { number: 2, place: 0, table: blank_table() };
+    }
+    let r = rows::bad(table);
+    if r < 64 {
+        return Listed { number: 4, place: r, table: blank_table() };
+    }
+    let topics = rows::column(table, 0);
+    let origins = rows::column(table, 1);
+    Listed { number: 0, place: 0, table: Table { topics, origins } }
+}
+
+// A table of zeros.
+fn blank_table() -> Table
+    ensures { λ r. ⌜ r ≡ blankTable ⌝ }
+{
+    Table { topics: [0u8; 64], origins: [0u8; 64] }
 }

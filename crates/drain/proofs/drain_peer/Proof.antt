@@ -1,0 +1,68 @@
+-- `drain::drain_peer` meets its contract. The loop keeps what the pairs of `rest` still have to do. Assumes nothing.
+use mathlib.Core.Logic.{inl, inr}
+use mathlib.Core.List.{[]}
+use Prim.Native.Nat.{_-_}
+use native.Mathlib.Omega.{arith}
+use borrow.Author.Needs.{needs}
+use Rattle.floodnet.specs.View.{fwd}
+use Rattle.floodnet.specs.CodeForward.{table, ofMessages}
+use Rattle.drain.specs.Pairs.{Walk, walk-none, walk-more, walk-done}
+use Rattle.drain.proofs.drain_peer.Statement.{statement}
+use Rattle.drain.proofs.drain_peer.Tie as tie
+
+abbrev Inv-loop : tie.InvT-loop
+Inv-loop pending₀ seen₀ known topics p todo left made₀ rest₀ pending seen made rest =
+    Walk (fwd (table topics [])) (ofMessages pending₀ seen₀ known) (p .0) todo left (ofMessages pending seen known) rest made
+
+abbrev μ-loop : tie.MeasureT-loop
+μ-loop pending₀ seen₀ known topics p todo left made₀ rest₀ pending seen made rest = left - made
+
+loop-holds : tie.Need-loop-holds Inv-loop μ-loop
+loop-holds c = walk-none _ _ _ _ _ (search needs)
+
+returns : tie.Need-returns Inv-loop μ-loop
+returns c = walk-done _ _ _ _ _ (c .before .before .loop .inv) (inl (c .if1 .taken))
+
+lowest64-requires : tie.Need-lowest64-requires Inv-loop μ-loop
+lowest64-requires c κs = search needs
+
+cast-t13 : tie.Need-cast-t13 Inv-loop μ-loop
+cast-t13 c = search needs
+
+forward-requires : tie.Need-forward-requires Inv-loop μ-loop
+forward-requires c κs = (search needs, search needs, c .before .before .before .before .before .before .pre .1 _)
+
+rest64-requires : tie.Need-rest64-requires Inv-loop μ-loop
+rest64-requires c κs = search needs
+
+add-made : tie.Need-add-made Inv-loop μ-loop
+add-made c = search needs
+
+loop-less : tie.Need-loop-less Inv-loop μ-loop
+loop-less c = search needs
+
+loop-again : tie.Need-loop-again Inv-loop μ-loop
+unfolding fwd
+loop-again c =
+    walk-more _ _ _ _ _ (c .before .before .before .before .before .before .before .loop .inv) (search needs) (search needs)
+    (c .before .before .before .before .lowest64 .ensures .0) (c .rest64 .ensures .0) (c .before .forward .ensures .1)
+
+returns-2 : tie.Need-returns-2 Inv-loop μ-loop
+returns-2 c = walk-done _ _ _ _ _ (c .before .loop .inv) (inr (omega arith))
+
+pub drain-peer-spec : {M : Type 1} → statement M
+drain-peer-spec =
+    tie.close
+    (tie.spec
+    Inv-loop
+    μ-loop
+    loop-holds
+    returns
+    lowest64-requires
+    cast-t13
+    forward-requires
+    rest64-requires
+    add-made
+    loop-less
+    loop-again
+    returns-2)

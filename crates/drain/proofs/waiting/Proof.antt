@@ -1,0 +1,64 @@
+-- `drain::waiting` meets its contract. The loop has added up the words of the peers below p. Assumes nothing.
+use mathlib.Core.Path.{_≡_, sym, ap₂, _∙_}
+use Prim.Native.Nat.{ℕ, _+_, _-_, _*_, _≤_}
+use native.Mathlib.Omega.{arith}
+use borrow.Author.Needs.{needs}
+use lib.ListN.{getD}
+use Rattle.sets.specs.Set.{has, count}
+use Rattle.sets.specs.Sums.{sum, sum-start, sum-more}
+use Rattle.drain.specs.Pairs.{waitingOf}
+use Rattle.drain.proofs.waiting.Statement.{statement}
+use Rattle.drain.proofs.waiting.Tie as tie
+
+abbrev Inv-loop : tie.InvT-loop
+Inv-loop pending total₀ p₀ total p = (p ≤ 32) × (total ≡ sum p (λ (i : ℕ). count 64 (has (getD pending i 0)))) × (total ≤ 64 * p)
+
+abbrev μ-loop : tie.MeasureT-loop
+μ-loop pending total₀ p₀ total p = 32 - p
+
+loop-holds : tie.Need-loop-holds Inv-loop μ-loop
+loop-holds c = (omega arith, sum-start _, omega arith)
+
+mul-members : tie.Need-mul-members Inv-loop μ-loop
+mul-members c = search needs
+
+element-copy-out-members : tie.Need-element-copy-out-members Inv-loop μ-loop
+element-copy-out-members c = search needs
+
+members-requires : tie.Need-members-requires Inv-loop μ-loop
+members-requires c κs = search needs
+
+add-total : tie.Need-add-total Inv-loop μ-loop
+add-total c = omega arith
+
+add-p : tie.Need-add-p Inv-loop μ-loop
+add-p c = omega arith
+
+loop-less : tie.Need-loop-less Inv-loop μ-loop
+loop-less c = omega arith
+
+loop-again : tie.Need-loop-again Inv-loop μ-loop
+loop-again c =
+    (omega arith, ap₂ _+_ (c .before .before .before .loop .inv .1) (c .members .ensures .0) ∙ sym (sum-more _ _), omega arith)
+
+returns : tie.Need-returns Inv-loop μ-loop
+unfolding waitingOf
+returns c =
+    let e : c .before .loop .p ≡ 32 = omega arith in
+    rw e at (c .before .loop .inv .1)
+
+pub waiting-spec : {M : Type 1} → statement M
+waiting-spec =
+    tie.close
+    (tie.spec
+    Inv-loop
+    μ-loop
+    loop-holds
+    mul-members
+    element-copy-out-members
+    members-requires
+    add-total
+    add-p
+    loop-less
+    loop-again
+    returns)

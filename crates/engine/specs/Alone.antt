@@ -1,0 +1,54 @@
+-- The single forward, and reading and writing, as entry points (document 01, "Events", "Records"). Assumes nothing.
+use mathlib.Core.Bool.{Bool, cond, _&&_}
+use mathlib.Core.List.{List}
+use Prim.Native.Nat.{ℕ}
+use lib.Dec.{eqb, ltb}
+use lib.ListN.{length}
+use Rattle.network.specs.Network.{peer, message}
+use Rattle.network.specs.State.{openOf, bytesOf}
+use Rattle.floodnet.specs.Refusals.{refusalForward}
+use Rattle.floodnet.specs.Forward.{forwarded, deliveries}
+use Rattle.engine.specs.declared.Begun.{Begun}
+use Rattle.engine.specs.declared.Forwarded.{Forwarded}
+use Rattle.engine.specs.declared.Checked.{Checked}
+use Rattle.engine.specs.Start.{beginOf}
+
+-- an answer, and the buffer that goes with it
+pub record Forwards : Type 0 where
+  pub answer : Forwarded
+  pub state : List ℕ
+
+-- refused: "a single forward reports their number (0 if refused)", "buffers untouched"
+abbrev pub noForward : ℕ → ℕ → List ℕ → Forwards
+noForward number place s = record { answer = record { number = number; place = place; deliveries = 0 }; state = s }
+
+-- "Called alone on a state, table, peer and message, it refuses by 1, 2, 4, 5, 7, 8, 13 in this order, place 0 for the last three,
+-- buffers untouched."
+unfoldable pub forwardOf : List ℕ → List ℕ → ℕ → ℕ → Forwards
+forwardOf s t p m =
+    let g = beginOf s t 0 in
+    let k = refusalForward (g .network) (peer p) (message m) in
+    cond (eqb (g .number) 0)
+    (cond (ltb p 32 && ltb m 64)
+    (cond (eqb k 0)
+    (record {
+      answer = record { number = 0; place = 0; deliveries = deliveries (g .network) (g .table) (peer p) (message m) };
+      state = bytesOf (forwarded (g .network) (g .table) (peer p) (message m));
+    })
+    (noForward k 0 s))
+    (noForward 7 0 s))
+    (noForward (g .number) (g .place) s)
+
+-- reading alone: "Reading and writing refuse by 1, then 5, and by nothing else"
+abbrev pub checked : ℕ → ℕ → Checked
+checked number place = record { number = number; place = place }
+
+unfoldable pub checkOf : List ℕ → Checked
+checkOf s = checked (openOf s .number) (openOf s .place)
+
+-- reading one buffer and writing another: a refused read leaves the other untouched, and so does a refused write
+unfoldable pub copyOf : List ℕ → List ℕ → Checked
+copyOf s to = cond (eqb (openOf s .number) 0) (cond (eqb (length to) 5120) (checked 0 0) (checked 1 0)) (checkOf s)
+
+unfoldable pub copiedOf : List ℕ → List ℕ → List ℕ
+copiedOf s to = cond (eqb (openOf s .number) 0) (cond (eqb (length to) 5120) (bytesOf (openOf s .network)) to) to

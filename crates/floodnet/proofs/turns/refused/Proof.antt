@@ -1,0 +1,10 @@
+-- `floodnet::turns::refused` meets its contract. Assumes nothing.
+use Rattle.floodnet.specs.CodeTurns.{turned-refused}
+use Rattle.floodnet.proofs.turns.refused.Statement.{statement}
+use Rattle.floodnet.proofs.turns.refused.Tie as tie
+
+returns : tie.Need-returns
+returns c = λ kind count. turned-refused _ kind count (c .pre)
+
+pub refused-spec : {M : Type 1} → statement M
+refused-spec = tie.close (tie.spec returns)

@@ -1,0 +1,106 @@
+-- `network::put` meets its contract. Assumes nothing.
+use borrow.Author.Needs.{needs}
+use mathlib.Core.Path.{_≡_}
+use Prim.Native.Nat.{ℕ, _-_, _*_, _≤_}
+use native.Mathlib.Omega.{arith}
+use Rattle.lists.specs.Tab.{Filled, filled-none, filled-all}
+use Rattle.network.specs.State.{byteOf, bytesOf}
+use Rattle.network.specs.Storing.{filled-record}
+use Rattle.network.proofs.put.Statement.{statement}
+use Rattle.network.proofs.put.Tie as tie
+
+abbrev Inv-loop : tie.InvT-loop
+Inv-loop state₀ n p₀ state p = (p ≤ 32) × Filled 5120 (byteOf n) (160 * p) state
+
+abbrev μ-loop : tie.MeasureT-loop
+μ-loop state₀ n p₀ state p = 32 - p
+
+loop-holds : tie.Need-loop-holds Inv-loop μ-loop
+loop-holds c = (search needs, filled-none 5120 _ _ (c .before .pre))
+
+cast-head : tie.Need-cast-head Inv-loop μ-loop
+cast-head c = search needs
+
+head-requires : tie.Need-head-requires Inv-loop μ-loop
+head-requires c κs = search needs
+
+mul-words : tie.Need-mul-words Inv-loop μ-loop
+mul-words c = search needs
+
+element-copy-out-words : tie.Need-element-copy-out-words Inv-loop μ-loop
+element-copy-out-words c = search needs
+
+mul-words-2 : tie.Need-mul-words-2 Inv-loop μ-loop
+mul-words-2 c = search needs
+
+element-copy-out-words-2 : tie.Need-element-copy-out-words-2 Inv-loop μ-loop
+element-copy-out-words-2 c = search needs
+
+mul-words-3 : tie.Need-mul-words-3 Inv-loop μ-loop
+mul-words-3 c = search needs
+
+element-copy-out-words-3 : tie.Need-element-copy-out-words-3 Inv-loop μ-loop
+element-copy-out-words-3 c = search needs
+
+mul-words-4 : tie.Need-mul-words-4 Inv-loop μ-loop
+mul-words-4 c = search needs
+
+element-copy-out-words-4 : tie.Need-element-copy-out-words-4 Inv-loop μ-loop
+element-copy-out-words-4 c = search needs
+
+mul-words-5 : tie.Need-mul-words-5 Inv-loop μ-loop
+mul-words-5 c = search needs
+
+element-copy-out-words-5 : tie.Need-element-copy-out-words-5 Inv-loop μ-loop
+element-copy-out-words-5 c = search needs
+
+words-requires : tie.Need-words-requires Inv-loop μ-loop
+words-requires c κs = search needs
+
+row-requires : tie.Need-row-requires Inv-loop μ-loop
+row-requires c κs = search needs
+
+add-p : tie.Need-add-p Inv-loop μ-loop
+add-p c = search needs
+
+loop-less : tie.Need-loop-less Inv-loop μ-loop
+loop-less c = search needs
+
+loop-again : tie.Need-loop-again Inv-loop μ-loop
+loop-again c =
+    let l = c .before .before .before .before .before .before .before .before .before .before .before .before .before .before .before .before .before .loop in
+    (search needs, filled-record _ (l .p) (search needs) (l .inv .1) (c .before .before .before .before .before .before .before .before .before .before .before .before .before .before .before .head .ensures) (c .before .before .before .before .before .before .before .before .words .ensures) (c .before .before .row .ensures))
+
+same-length : tie.Need-same-length Inv-loop μ-loop
+same-length c = search needs
+
+returns : tie.Need-returns Inv-loop μ-loop
+unfolding bytesOf
+returns c = let e : c .before .loop .p ≡ 32 = omega arith in filled-all (rw e at (c .before .loop .inv .1))
+
+pub put-spec : {M : Type 1} → statement M
+put-spec =
+    tie.close
+    (tie.spec
+    Inv-loop
+    μ-loop
+    loop-holds
+    cast-head
+    head-requires
+    mul-words
+    element-copy-out-words
+    mul-words-2
+    element-copy-out-words-2
+    mul-words-3
+    element-copy-out-words-3
+    mul-words-4
+    element-copy-out-words-4
+    mul-words-5
+    element-copy-out-words-5
+    words-requires
+    row-requires
+    add-p
+    loop-less
+    loop-again
+    same-length
+    returns)

@@ -1,0 +1,69 @@
+-- `network::rules::list_back` meets its contract. Assumes nothing.
+use borrow.Author.Needs.{needs}
+use mathlib.Core.Path.{_≡_, sym, _∙_}
+use native.Mathlib.Omega.{arith}
+use Rattle.sets.specs.Bools.{not-yes, not-no}
+use Rattle.network.specs.Backing.{Backs, backs-none, backs-more, backs-all, backs-not}
+use Rattle.network.proofs.rules.list_back.Statement.{statement}
+use Rattle.network.proofs.rules.list_back.Tie as tie
+
+abbrev Inv-loop : tie.InvT-loop
+Inv-loop neighbours listed p left₀ left = Backs neighbours listed p left
+
+abbrev μ-loop : tie.MeasureT-loop
+μ-loop neighbours listed p left₀ left = left
+
+loop-holds : tie.Need-loop-holds Inv-loop μ-loop
+loop-holds c = backs-none _ _ _ (search needs)
+
+lowest32-requires : tie.Need-lowest32-requires Inv-loop μ-loop
+lowest32-requires c κs = search needs
+
+cast-has32 : tie.Need-cast-has32 Inv-loop μ-loop
+cast-has32 c = search needs
+
+mul-has32 : tie.Need-mul-has32 Inv-loop μ-loop
+mul-has32 c = search needs
+
+element-copy-out-has32 : tie.Need-element-copy-out-has32 Inv-loop μ-loop
+element-copy-out-has32 c = search needs
+
+has32-requires : tie.Need-has32-requires Inv-loop μ-loop
+has32-requires c κs = search needs
+
+returns : tie.Need-returns Inv-loop μ-loop
+returns c =
+    let l = c .before .before .before .before .before .loop in
+    sym (backs-not (l .inv) (search needs) (c .before .before .before .lowest32 .ensures .0) (sym (c .before .has32 .ensures) ∙ not-yes _ (c .if1 .taken)))
+
+rest32-requires : tie.Need-rest32-requires Inv-loop μ-loop
+rest32-requires c κs = search needs
+
+loop-less : tie.Need-loop-less Inv-loop μ-loop
+loop-less c = search needs
+
+loop-again : tie.Need-loop-again Inv-loop μ-loop
+loop-again c =
+    let l = c .before .before .before .before .before .before .loop in
+    backs-more (l .inv) (search needs) (c .before .before .before .before .lowest32 .ensures .0) (c .rest32 .ensures .0) (sym (c .before .before .has32 .ensures) ∙ not-no _ (c .before .if1 .left))
+
+returns-2 : tie.Need-returns-2 Inv-loop μ-loop
+returns-2 c = sym (backs-all (c .before .loop .inv) (omega arith))
+
+pub list-back-spec : {M : Type 1} → statement M
+list-back-spec =
+    tie.close
+    (tie.spec
+    Inv-loop
+    μ-loop
+    loop-holds
+    lowest32-requires
+    cast-has32
+    mul-has32
+    element-copy-out-has32
+    has32-requires
+    returns
+    rest32-requires
+    loop-less
+    loop-again
+    returns-2)

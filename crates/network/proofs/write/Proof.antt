@@ -1,0 +1,44 @@
+-- `network::write` meets its contract. Assumes nothing.
+use borrow.Author.Needs.{needs}
+use mathlib.Core.Path.{_≡_, _∙_}
+use Rattle.network.specs.Rules.{lowestFault}
+use Rattle.network.specs.Writing.{lowest-is, write-1, write-5, write-0}
+use Rattle.network.proofs.write.Statement.{statement}
+use Rattle.network.proofs.write.Tie as tie
+
+-- what is found is the lowest unsound record
+found : (c : tie.After-lowest-fault) → c .lowest-fault .result ≡ lowestFault (c .before .before .before .before .before .before .before .before .before .before .before .before .args .t1)
+found c = c .lowest-fault .ensures ∙ lowest-is _ (c .before .before .before .before .before .before .before .before .before .heads .ensures)
+
+returns : tie.Need-returns
+returns c = write-1 _ _ (c .if1 .taken)
+
+heads-requires : tie.Need-heads-requires
+heads-requires c κs = search needs
+
+lowest-fault-requires : tie.Need-lowest-fault-requires
+lowest-fault-requires c κs = search needs
+
+returns-2 : tie.Need-returns-2
+returns-2 c = write-5 _ _ (c .before .before .before .before .before .before .before .before .before .before .before .if1 .left) (found (c .before)) (c .if2 .taken)
+
+put-requires : tie.Need-put-requires
+put-requires c κs = search needs
+
+same-length : tie.Need-same-length
+same-length c = search needs
+
+returns-3 : tie.Need-returns-3
+returns-3 c = write-0 _ _ (c .before .before .before .before .before .before .before .before .before .before .before .before .before .before .before .if1 .left) (found (c .before .before .before .before .before)) (c .before .before .before .before .if2 .left) (c .before .before .put .ensures)
+
+pub write-spec : {M : Type 1} → statement M
+write-spec =
+    tie.close
+    (tie.spec
+    returns
+    heads-requires
+    lowest-fault-requires
+    returns-2
+    put-requires
+    same-length
+    returns-3)

@@ -1,0 +1,129 @@
+-- Which number a record's first failing rule has, from what the code tests; and that a record with none keeps them all. Assumes nothing.
+use mathlib.Core.Path.{_≡_, refl, sym, ap, _∙_}
+use mathlib.Core.Bool.{Bool, true, false, cond, not, _&&_}
+use mathlib.Core.List.{List}
+use Prim.Native.Nat.{ℕ, suc, _+_, _≤_, _<_}
+use native.Mathlib.Omega.{arith}
+use lib.Dec.{eqb, ltb}
+use lib.ListN.{getD}
+use borrow.Author.Tests.{le-ltb, eq-eqb, eqb-true}
+use Rattle.sets.specs.Bools.{not-false, and-both, and-yes, ne-eqb}
+use Rattle.sets.specs.Least.{lowestOf, lowestOf-on, lowestOf-found}
+use Rattle.sets.specs.Any.{all, all-yes, all-why}
+use Rattle.network.specs.declared.Peer.{Peer}
+use Rattle.network.specs.declared.Network.{Network}
+use Rattle.network.specs.Network.{peer, mk, topic, pubsOf, subsOf, neighboursOf, pendingOf, seenOf, knownOf}
+use Rattle.network.specs.Sound.{Empty}
+use Rattle.network.specs.Rules.{headRight, emptyRight, ownRight, nearRight, backRight, knownRight, apartRight, unless, absentFault, presentFault, faultOf, faulty, lowestBy}
+
+-- no number is given: the rule holds, and what comes after it gives none either
+pub unless-none : (a : Bool) (k rest : ℕ) → unless a (suc k) rest ≡ 0 → (a ≡ true) × (rest ≡ 0)
+unless-none true k rest h = (refl, h)
+unless-none false k rest h = absurd (omega arith)
+
+-- six that all hold
+six-yes : (a b c d e f : Bool) → a && (b && (c && (d && (e && f)))) ≡ true → (a ≡ true) × (b ≡ true) × (c ≡ true) × (d ≡ true) × (e ≡ true) × (f ≡ true)
+six-yes a b c d e f h =
+    let p = and-yes a _ h in
+    let q = and-yes b _ (p .1) in
+    let r = and-yes c _ (q .1) in
+    let s = and-yes d _ (r .1) in
+    let t = and-yes e f (s .1) in
+    (p .0, q .0, r .0, s .0, t .0, t .1)
+
+module _ (n : Network) (p : Peer) where
+  -- "all its bytes are zero"
+  pub empty-why : emptyRight n p ≡ true → Empty n p
+  unfolding emptyRight
+  empty-why e =
+      let w =
+          six-yes (eqb (pubsOf n p) 0) (eqb (subsOf n p) 0) (eqb (neighboursOf n p) 0) (eqb (pendingOf n p) 0) (eqb (seenOf n p) 0)
+          (all 32 (λ (t : ℕ). eqb (knownOf n p (topic t)) 0)) e in
+      record {
+        pubs = eqb-true _ _ (w .0);
+        subs = eqb-true _ _ (w .1);
+        neighbours = eqb-true _ _ (w .2);
+        pending = eqb-true _ _ (w .3);
+        seen = eqb-true _ _ (w .4);
+        known = λ t b. eqb-true _ _ (all-why 32 (λ (t : ℕ). eqb (knownOf n p (topic t)) 0) (w .5) (t .0) b);
+      }
+
+  pub empty-is : Empty n p → emptyRight n p ≡ true
+  unfolding emptyRight
+  empty-is e =
+      and-both (eq-eqb _ _ (e .pubs))
+      (and-both (eq-eqb _ _ (e .subs))
+      (and-both (eq-eqb _ _ (e .neighbours))
+      (and-both (eq-eqb _ _ (e .pending)) (and-both (eq-eqb _ _ (e .seen)) (all-yes 32 _ λ t b. eq-eqb _ _ (e .known (topic t) b))))))
+
+  -- an absent record
+  pub fault-2 : (Empty n p → ⊥) → 2 ≡ absentFault n p
+  unfolding absentFault
+  fault-2 h = rw (not-false λ e. h (empty-why e))
+
+  pub fault-empty : Empty n p → 0 ≡ absentFault n p
+  unfolding absentFault
+  fault-empty e = rw (empty-is e)
+
+  -- a present record
+  pub fault-3 : ownRight n p ≡ false → 3 ≡ presentFault n p
+  unfolding presentFault
+  fault-3 a = rw a
+
+  pub fault-4 : ownRight n p ≡ true → nearRight n p ≡ false → 4 ≡ presentFault n p
+  unfolding presentFault
+  fault-4 a b = rw (a, b)
+
+  pub fault-5 : ownRight n p ≡ true → nearRight n p ≡ true → backRight n p ≡ false → 5 ≡ presentFault n p
+  unfolding presentFault
+  fault-5 a b c = rw (a, b, c)
+
+  pub fault-6 : ownRight n p ≡ true → nearRight n p ≡ true → backRight n p ≡ true → knownRight n p ≡ false → 6 ≡ presentFault n p
+  unfolding presentFault
+  fault-6 a b c d = rw (a, b, c, d)
+
+  pub fault-7 : ownRight n p ≡ true → nearRight n p ≡ true → backRight n p ≡ true → knownRight n p ≡ true → apartRight n p ≡ false → 7 ≡ presentFault n p
+  unfolding presentFault
+  fault-7 a b c d e = rw (a, b, c, d, e)
+
+  pub fault-none : ownRight n p ≡ true → nearRight n p ≡ true → backRight n p ≡ true → knownRight n p ≡ true → apartRight n p ≡ true → 0 ≡ presentFault n p
+  unfolding presentFault
+  fault-none a b c d e = rw (a, b, c, d, e)
+
+  -- by the first word
+  pub fault-head : (h : ℕ) → 2 ≤ h → 1 ≡ faultOf h n p
+  unfolding faultOf
+  fault-head h l = rw (le-ltb h 2 l)
+
+  pub fault-absent : (h : ℕ) → h ≡ 0 → faultOf h n p ≡ absentFault n p
+  unfolding faultOf
+  fault-absent h e = rw e
+
+  pub fault-present : (h : ℕ) → h ≡ 1 → faultOf h n p ≡ presentFault n p
+  unfolding faultOf
+  fault-present h e = rw e
+
+-- who else is present plays no part in an absent record's fault, nor p's pubs in a present one's
+pub absent-same : (k present : ℕ) (pubs subs neighbours pending seen known : List ℕ) (p : Peer)
+    → absentFault (mk k pubs subs neighbours pending seen known) p ≡ absentFault (mk present pubs subs neighbours pending seen known) p
+unfolding absentFault emptyRight
+absent-same k present pubs subs neighbours pending seen known p = refl
+
+pub present-same : (present : ℕ) (l pubs subs neighbours pending seen known : List ℕ) (p : Peer)
+    → presentFault (mk present l subs neighbours pending seen known) p ≡ presentFault (mk present pubs subs neighbours pending seen known) p
+unfolding presentFault ownRight nearRight backRight knownRight apartRight
+present-same present l pubs subs neighbours pending seen known p = refl
+
+-- a loop over the records that stops at the first with a fault: the next has none, or is it
+pub faulty-on : (q : ℕ) (heads : List ℕ) (n : Network) {r : ℕ} → q ≡ lowestOf q (faulty heads n) → r ≡ faultOf (getD heads q 0) n (peer q) → r ≡ 0
+    → q + 1 ≡ lowestOf (q + 1) (faulty heads n)
+unfolding faulty
+faulty-on q heads n k e z = lowestOf-on q (faulty heads n) k (ap not (eq-eqb _ _ (sym e ∙ z)))
+
+pub faulty-found : (q : ℕ) (heads : List ℕ) (n : Network) {r : ℕ} → q ≡ lowestOf q (faulty heads n) → q < 32 → r ≡ faultOf (getD heads q 0) n (peer q) → (r ≡ 0 → ⊥) → q ≡ lowestBy heads n
+unfolding faulty lowestBy
+faulty-found q heads n k b e z = lowestOf-found 32 q (faulty heads n) k b (ap not (ne-eqb λ f. z (e ∙ f)))
+
+pub faulty-none : (q : ℕ) (heads : List ℕ) (n : Network) → q ≡ lowestOf q (faulty heads n) → q ≡ 32 → 32 ≡ lowestBy heads n
+unfolding lowestBy
+faulty-none q heads n k e = rw e at k

@@ -1,0 +1,219 @@
+// The rules of soundness as code: which rule a record breaks first, and which record is the lowest that breaks one
+// (specs/Rules.antt; specs/Tests.antt has what is tested in place of a rule).
+use crate::Peer;
+
+ghost use mathlib.Core.Path.{_≡_};
+ghost use Prim.Native.Nat.{ℕ, _<_};
+ghost use mathlib.Core.List.{[]};
+ghost use lib.Dec.{eqb};
+ghost use lib.ListN.{getD};
+ghost use Rattle.sets.specs.Set.{setOf};
+ghost use Rattle.network.specs.Network.{mk};
+ghost use Rattle.network.specs.Rules.{absentFault, presentFault, faultOf, lowestBy};
+ghost use Rattle.network.specs.Tests.{subscribersOf, joinedTo, rowEmpty, listBack, rowKnown};
+
+// The peers whose first word is 1.
+pub(crate) fn ones(heads: &[u32; 32]) -> u32
+    ensures { λ r. ⌜ r ≡ setOf 32 (λ (p : ℕ). eqb (getD (now (heads .entry)) p 0) 1) ⌝ }
+{
+    let mut r: u32 = 0;
+    let mut p: u32 = 0;
+    while p < 32 {
+        if heads[p as usize] == 1 {
+            r = sets::with32(r, p);
+        }
+        p += 1;
+    }
+    r
+}
+
+// Peer q joins the set of each of the topics.
+fn join(to: &mut [u32; 32], topics: u32, q: u32)
+    requires { ⌜ q < 32 ⌝ }
+    ensures { λ r. ⌜ now (to .exit) ≡ joinedTo topics q (now (to .entry)) ⌝ }
+{
+    let mut left = topics;
+    while 0 < left {
+        let t = sets::lowest32(left) as usize;
+        to[t] = sets::with32(to[t], q);
+        left = sets::rest32(left);
+    }
+}
+
+// The peers subscribed to each topic.
+pub(crate) fn subscribers(subs: &[u32; 32]) -> [u32; 32]
+    ensures { λ r. ⌜ r ≡ subscribersOf (now (subs .entry)) ⌝ }
+{
+    let mut r = [0u32; 32];
+    let mut q: u32 = 0;
+    while q < 32 {
+        join(&mut r, subs[q as usize], q);
+        q += 1;
+    }
+    r
+}
+
+// The row of p has no known subscribers.
+fn row_empty(known: &[u32; 1024], p: usize) -> bool
+    requires { ⌜ p < 32 ⌝ }
+    ensures { λ r. ⌜ r ≡ rowEmpty (now (known .entry)) p ⌝ }
+{
+    let mut t: usize = 0;
+    while t < 32 {
+        if known[p * 32 + t] != 0 {
+            return false;
+        }
+        t += 1;
+    }
+    true
+}
+
+// Every peer of the set lists p.
+fn list_back(neighbours: &[u32; 32], listed: u32, p: u32) -> bool
+    requires { ⌜ p < 32 ⌝ }
+    ensures { λ r. ⌜ r ≡ listBack (now (neighbours .entry)) listed p ⌝ }
+{
+    let mut left = listed;
+    while 0 < left {
+        let q = sets::lowest32(left);
+        if !sets::has32(neighbours[q as usize], p) {
+            return false;
+        }
+        left = sets::rest32(left);
+    }
+    true
+}
+
+// The row of p has, for each topic, the subscribers among the peers listed.
+fn row_known(known: &[u32; 1024], subscribers: &[u32; 32], listed: u32, p: usize) -> bool
+    requires { ⌜ p < 32 ⌝ }
+    ensures { λ r. ⌜ r ≡ rowKnown (now (known .entry)) (now (subscribers .entry)) listed p ⌝ }
+{
+    let mut t: usize = 0;
+    while t < 32 {
+        if known[p * 32 + t] != sets::meet32(subscribers[t], listed) {
+            return false;
+        }
+        t += 1;
+    }
+    true
+}
+
+// The fault of an absent record: 2 where it is not empty. Who else is present plays no part in it.
+fn absent_fault(
+    p: Peer,
+    pubs: &[u32; 32],
+    subs: &[u32; 32],
+    neighbours: &[u32; 32],
+    pending: &[u64; 32],
+    seen: &[u64; 32],
+    known: &[u32; 1024],
+) -> u8
+    requires { ⌜ p .0 < 32 ⌝ }
+    ensures { λ r. ⌜ r ≡ absentFault (mk 0 (now (pubs .entry)) (now (subs .entry)) (now (neighbours .entry)) (now (pending .entry)) (now (seen .entry)) (now (known .entry))) p ⌝ }
+{
+    let i = p.0 as usize;
+    if pubs[i] != 0 {
+        return 2;
+    }
+    if subs[i] != 0 {
+        return 2;
+    }
+    if neighbours[i] != 0 {
+        return 2;
+    }
+    if pending[i] != 0 {
+        return 2;
+    }
+    if seen[i] != 0 {
+        return 2;
+    }
+    if row_empty(known, i) {
+        return 0;
+    }
+    2
+}
+
+// The fault of a present record, `subscribers` being the peers subscribed to each topic.
+fn present_fault(
+    p: Peer,
+    present: u32,
+    subs: &[u32; 32],
+    neighbours: &[u32; 32],
+    pending: &[u64; 32],
+    seen: &[u64; 32],
+    known: &[u32; 1024],
+    subscribers: &[u32; 32],
+) -> u8
+    requires { ⌜ (p .0 < 32) × (now subscribers ≡ subscribersOf (now subs)) ⌝ }
+    ensures { λ r. ⌜ r ≡ presentFault (mk present [] (now (subs .entry)) (now (neighbours .entry)) (now (pending .entry)) (now (seen .entry)) (now (known .entry))) p ⌝ }
+{
+    let i = p.0 as usize;
+    let listed = neighbours[i];
+    if sets::has32(listed, p.0 as u32) {
+        return 3;
+    }
+    if sets::minus32(listed, present) != 0 {
+        return 4;
+    }
+    if !list_back(neighbours, listed, p.0 as u32) {
+        return 5;
+    }
+    if !row_known(known, subscribers, listed, i) {
+        return 6;
+    }
+    if sets::meet64(pending[i], seen[i]) != 0 {
+        return 7;
+    }
+    0
+}
+
+// The first rule that p's record breaks, its first word being `head`; 0 where it breaks none.
+fn fault(
+    head: u32,
+    p: Peer,
+    present: u32,
+    pubs: &[u32; 32],
+    subs: &[u32; 32],
+    neighbours: &[u32; 32],
+    pending: &[u64; 32],
+    seen: &[u64; 32],
+    known: &[u32; 1024],
+    subscribers: &[u32; 32],
+) -> u8
+    requires { ⌜ (p .0 < 32) × (now subscribers ≡ subscribersOf (now subs)) ⌝ }
+    ensures { λ r. ⌜ r ≡ faultOf head (mk present (now (pubs .entry)) (now (subs .entry)) (now (neighbours .entry)) (now (pending .entry)) (now (seen .entry)) (now (known .entry))) p ⌝ }
+{
+    if 2 <= head {
+        return 1;
+    }
+    if head == 0 {
+        return absent_fault(p, pubs, subs, neighbours, pending, seen, known);
+    }
+    present_fault(p, present, subs, neighbours, pending, seen, known, subscribers)
+}
+
+// The lowest record that breaks a rule; 32 where none does.
+pub(crate) fn lowest_fault<'a>(
+    heads: &'a [u32; 32],
+    present: u32,
+    pubs: &'a [u32; 32],
+    subs: &'a [u32; 32],
+    neighbours: &'a [u32; 32],
+    pending: &'a [u64; 32],
+    seen: &'a [u64; 32],
+    known: &'a [u32; 1024],
+) -> usize
+    ensures { λ r. ⌜ r ≡ lowestBy (now (heads .entry)) (mk present (now (pubs .entry)) (now (subs .entry)) (now (neighbours .entry)) (now (pending .entry)) (now (seen .entry)) (now (known .entry))) ⌝ }
+{
+    let subscribers = subscribers(subs);
+    let mut p: u8 = 0;
+    while p < 32 {
+        let i = p as usize;
+        if fault(heads[i], Peer(p), present, pubs, subs, neighbours, pending, seen, known, &subscribers) != 0 {
+            return i;
+        }
+        p += 1;
+    }
+    32
+}

@@ -1,0 +1,57 @@
+// The bytes of one record (specs/Storing.antt).
+ghost use mathlib.Core.Path.{_≡_};
+ghost use Prim.Native.Nat.{ℕ, _<_};
+ghost use lib.ListN.{length};
+ghost use Rattle.sets.specs.Set.{has, digit};
+ghost use Rattle.lists.specs.Tab.{tab};
+ghost use Rattle.network.specs.Storing.{putHead, putRow};
+
+// The first word of p's record: 1 where p is present.
+pub(crate) fn head(present: u32, p: u32) -> u32
+    requires { ⌜ p < 32 ⌝ }
+    ensures { λ r. ⌜ r ≡ digit (has present p) ⌝ }
+{
+    if sets::has32(present, p) {
+        return 1;
+    }
+    0
+}
+
+// The first words of all records.
+pub(crate) fn heads(present: u32) -> [u32; 32]
+    ensures { λ r. ⌜ r ≡ tab 32 (λ (p : ℕ). digit (has present p)) ⌝ }
+{
+    let mut r = [0u32; 32];
+    let mut p: u32 = 0;
+    while p < 32 {
+        r[p as usize] = head(present, p);
+        p += 1;
+    }
+    r
+}
+
+// The words of record p up to its known subscribers.
+pub(crate) fn words(state: &mut [u8], p: usize, head: u32, pubs: u32, subs: u32, neighbours: u32, pending: u64, seen: u64)
+    requires { ⌜ (length (now state) ≡ 5120) × (p < 32) ⌝ }
+    ensures { λ r. ⌜ now (state .exit) ≡ putHead (now (state .entry)) p head pubs subs neighbours pending seen ⌝ }
+{
+    let at = 160 * p;
+    endian::put4(&mut *state, at, head);
+    endian::put4(&mut *state, at + 4, pubs);
+    endian::put4(&mut *state, at + 8, subs);
+    endian::put4(&mut *state, at + 12, neighbours);
+    endian::put8(&mut *state, at + 16, pending);
+    endian::put8(&mut *state, at + 24, seen);
+}
+
+// The known subscribers of record p.
+pub(crate) fn row(state: &mut [u8], known: &[u32; 1024], p: usize)
+    requires { ⌜ (length (now state) ≡ 5120) × (p < 32) ⌝ }
+    ensures { λ r. ⌜ now (state .exit) ≡ putRow 32 (now (state .entry)) (now (known .entry)) p ⌝ }
+{
+    let mut t: usize = 0;
+    while t < 32 {
+        endian::put4(&mut *state, 160 * p + 32 + 4 * t, known[p * 32 + t]);
+        t += 1;
+    }
+}

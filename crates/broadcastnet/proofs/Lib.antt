@@ -1,3 +1,4 @@
 pub mod Messages
 pub mod Members
 pub mod Refines
+pub mod Figure

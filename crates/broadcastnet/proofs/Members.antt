@@ -1,6 +1,6 @@
 -- The rows of subscribe, unsubscribe, leave and join in 01's table of images. Assumes nothing.
-use mathlib.Core.Path.{_≡_, refl, sym, ap, ap₂, _∙_}
-use mathlib.Core.Bool.{Bool, true, false}
+use mathlib.Core.Path.{_≡_, refl, sym, ap, _∙_}
+use mathlib.Core.Bool.{true, false}
 use mathlib.Core.List.{List, [], _∷_}
 use Prim.Native.Nat.{ℕ, zero, suc, _<_}
 use native.Mathlib.Omega.{arith}
@@ -11,13 +11,13 @@ use Rattle.sets.specs.Bounds.{minus-lt}
 use Rattle.lists.specs.Edit.{edit}
 use Rattle.network.specs.declared.Peer.{Peer}
 use Rattle.network.specs.declared.Network.{Network}
-use Rattle.network.specs.Network.{subsOf, pendingOf, present, Shaped}
+use Rattle.network.specs.Network.{pendingOf, present}
 use Rattle.network.specs.Sound.{Sound}
 use Rattle.network.specs.SoundLaws.{present-peer}
 use Rattle.floodnet.specs.Topics.{subscribedTo, unsubscribedFrom}
 use Rattle.floodnet.specs.Links.{linkDown, linkUp, placed, cleared, left, joined}
 use Rattle.floodnet.specs.LeaveJoin.{joined-is}
-use Rattle.broadcastnet.specs.Broadcast.{Broadcastnet, bn, presentIn, subscribe, unsubscribe, leave, join}
+use Rattle.broadcastnet.specs.Broadcast.{bn, subscribe, unsubscribe, leave, join}
 use Rattle.broadcastnet.specs.Commit.{together, underway, without, image}
 use Rattle.broadcastnet.specs.Page.{SubscribeRow, UnsubscribeRow, LeaveRow, JoinRow}
 
@@ -70,8 +70,8 @@ unfolding image underway leave left cleared linkDown
 leave-row {n} p a h =
     record {
       step =
-      ap (λ (x : List ℕ). bn (minus (n .present) (only (p .0))) (set (n .pubs) (p .0) 0) (set (n .subs) (p .0) 0) x)
-      (ap (λ (x : List ℕ). without (together 32 x) (set (n .seen) (p .0) 0)) (set-none (n .pending) (p .0) h) ∙ without-none (underway n) (n .seen) (p .0));
+          ap (λ (x : List ℕ). bn (minus (n .present) (only (p .0))) (set (n .pubs) (p .0) 0) (set (n .subs) (p .0) 0) x)
+          (ap (λ (x : List ℕ). without (together 32 x) (set (n .seen) (p .0) 0)) (set-none (n .pending) (p .0) h) ∙ without-none (underway n) (n .seen) (p .0));
       may = a;
     }
 
@@ -83,8 +83,8 @@ unfolding image underway join placed linkUp
 join-row {n} s p subs pubs who l a =
     record {
       step =
-      ap image (joined-is s p subs pubs who a l)
-      ∙ ap (λ (x : List ℕ). bn (union (n .present) (only (p .0))) (set (n .pubs) (p .0) pubs) (set (n .subs) (p .0) subs) x)
-      (ap (without (underway n)) (sym (set-none (n .seen) (p .0) (s .empty p l a .seen))) ∙ without-none (underway n) (n .seen) (p .0));
+          ap image (joined-is s p subs pubs who a l)
+          ∙ ap (λ (x : List ℕ). bn (union (n .present) (only (p .0))) (set (n .pubs) (p .0) pubs) (set (n .subs) (p .0) subs) x)
+          (ap (without (underway n)) (sym (set-none (n .seen) (p .0) (s .empty p l a .seen))) ∙ without-none (underway n) (n .seen) (p .0));
       may = a;
     }

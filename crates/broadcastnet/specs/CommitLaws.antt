@@ -1,5 +1,5 @@
 -- The image in observations; two Broadcastnet states are one if they show the same. Assumes nothing.
-use mathlib.Core.Path.{_≡_, refl, sym, ap, ap₂, _∙_}
+use mathlib.Core.Path.{_≡_, sym, ap, _∙_}
 use mathlib.Core.Bool.{Bool, true, false, not, _&&_, _||_, and-true}
 use mathlib.Core.List.{List}
 use Prim.Native.Nat.{ℕ, zero, suc, _+_, _^_, _≤_, _<_}
@@ -7,14 +7,14 @@ use native.Mathlib.Numerals.{add-one}
 use native.Mathlib.Omega.{arith}
 use native.Mathlib.Decide.{decLt}
 use lib.Dec.{eqb}
-use lib.ListN.{length, getD, replicate, length-replicate}
+use lib.ListN.{length, getD, replicate}
 use lib.Seq.{ext-getD}
-use Rattle.sets.specs.Set.{has, union, minus, only, withIf, setOf}
-use Rattle.sets.specs.Any.{any, any-yes, any-why, any-none}
+use Rattle.sets.specs.Set.{has, union, minus, setOf}
+use Rattle.sets.specs.Any.{any, any-yes, any-none}
 use Rattle.sets.specs.Members.{has-union, has-minus, has-none, ext}
-use Rattle.sets.specs.Bounds.{has-out, union-lt, minus-lt}
+use Rattle.sets.specs.Bounds.{has-out}
 use Rattle.sets.specs.Build.{has-setOf, setOf-lt}
-use Rattle.lists.specs.Edit.{edit, length-edit, edit-below, edit-none, is-edit}
+use Rattle.lists.specs.Edit.{edit, length-edit, edit-none, is-edit}
 use Rattle.lists.specs.Tab.{Filled}
 use Rattle.network.specs.declared.Peer.{Peer}
 use Rattle.network.specs.declared.Message.{Message}
@@ -42,14 +42,10 @@ partial-saw m who s e h q k = has-edit-with who (m .0) (s .seen) (q .0) (k .0) �
 
 -- ---- what is pending somewhere
 
--- One peer at which it is pending; and which it is.
+-- One peer at which it is pending.
 pub somewhere-yes : (n : Network) (p : Peer) (m : Message) → p .0 < 32 → pending n p m ≡ true → somewhere n m ≡ true
 unfolding somewhere
 somewhere-yes n p m l h = any-yes 32 (λ (q : ℕ). pending n (peer q) m) (p .0) l h
-
-pub somewhere-why : (n : Network) (m : Message) → somewhere n m ≡ true → (p : ℕ) × (p < 32) × (pending n (peer p) m ≡ true)
-unfolding somewhere
-somewhere-why n m h = any-why 32 (λ (q : ℕ). pending n (peer q) m) h
 
 -- Pending at no peer.
 pub somewhere-none : (n : Network) (m : Message) → ((p : Peer) → pending n p m ≡ false) → somewhere n m ≡ false

@@ -1,12 +1,10 @@
 -- The image as it is written, "32 peer records whose neighbours, pending and known subscribers are zero": it is a sound network, so that
 -- writing never refuses it, and its own image is the image that was written. Assumes nothing.
 use mathlib.Core.Path.{_≡_, refl, sym, ap, _∙_}
-use mathlib.Core.Bool.{Bool, true, false, _&&_}
-use mathlib.Core.List.{List}
-use Prim.Native.Nat.{ℕ, zero, suc, _^_, _≤_, _<_}
+use mathlib.Core.Bool.{false}
+use Prim.Native.Nat.{ℕ, zero, suc, _^_, _<_}
 use native.Mathlib.Omega.{arith}
-use native.Mathlib.Decide.{decLt}
-use lib.ListN.{length, getD, replicate, length-replicate, List·getD-eq-default}
+use lib.ListN.{getD, replicate, length-replicate}
 use Rattle.sets.specs.Set.{has, minus}
 use Rattle.sets.specs.Bools.{clash}
 use Rattle.sets.specs.Members.{has-none}
@@ -16,7 +14,7 @@ use Rattle.network.specs.declared.Peer.{Peer}
 use Rattle.network.specs.declared.Topic.{Topic}
 use Rattle.network.specs.declared.Message.{Message}
 use Rattle.network.specs.declared.Network.{Network}
-use Rattle.network.specs.Network.{present, subscribed, linked, pending, saw, knows, spot, Shaped}
+use Rattle.network.specs.Network.{present, linked, pending, knows, spot, Shaped}
 use Rattle.network.specs.Sound.{Empty, Sound}
 use Rattle.broadcastnet.specs.Broadcast.{Broadcastnet, bn}
 use Rattle.broadcastnet.specs.Commit.{underway, without, image, asNetwork, imageNet}

@@ -1,6 +1,7 @@
 -- THE CLIENT'S PAGE: demand 2 of the minutes, "Seen through the commitment map, it is one Broadcastnet step or no change, as tabled."
 -- The table is document 01's ("Commitment map"). n is the network before an event, o the network after it; Broadcastnet's state and steps
--- are in specs/Broadcast.antt, the image in specs/Commit.antt. proofs/Refines.antt proves the whole page. Assumes nothing.
+-- are in specs/Broadcast.antt, the image in specs/Commit.antt. An event that fits has its numbers in range, as every event that is read; it is
+-- accepted where `refusal` is 0. proofs/Refines.antt proves the whole page. Assumes nothing.
 use mathlib.Core.Path.{_≡_}
 use mathlib.Core.Bool.{true, false}
 use mathlib.Core.List.{List, [], _∷_}
@@ -65,19 +66,24 @@ unfoldable pub Accepted : Network → Table → List Event → Type 0
 Accepted n b [] = Unit {0}
 Accepted n b (e ∷ l) = EventFits e × (refusal n b e ≡ 0) × Accepted (effect n b e) b l
 
+-- the network after a list of events
+unfoldable pub effects : Network → Table → List Event → Network
+effects n b [] = n
+effects n b (e ∷ l) = effects (effect n b e) b l
+
 -- the images of the states after each event, in order
 unfoldable pub images : Network → Table → List Event → List Broadcastnet
 images n b [] = []
 images n b (e ∷ l) = image (effect n b e) ∷ images (effect n b e) b l
 
--- a computation of Broadcastnet: from s one step leads to the first of the list, and from each to the next
-unfoldable pub Path : Table → Broadcastnet → List Broadcastnet → Type 0
-Path b s [] = Unit {0}
-Path b s (u ∷ l) = Step b s u × Path b u l
+-- a computation of Broadcastnet from s to u: one step leads from s to the first state of the list, one from each to the next, and the last is u
+unfoldable pub Path : Table → Broadcastnet → List Broadcastnet → Broadcastnet → Type 0
+Path b s [] u = u ≡ s
+Path b s (v ∷ l) u = Step b s v × Path b v l u
 
 -- ---- what is promised
 
--- 004's relation rel-wf of a Floodnet state and a Broadcastnet state
+-- 004's relation of a Floodnet state and a Broadcastnet state: (definec rel-wf (x y :borf) :bool (^ (s-fnp x) (s-bnp y) (good-s-fnp x) (== y (f2b x))))
 pub record Related (n : Network) (w : Broadcastnet) : Type 0 where
   pub sound : Sound n
   pub shown : w ≡ image n
@@ -89,7 +95,7 @@ pub record Refines (b : Table) : Type 0 where
   -- So it is one step of Broadcastnet; no change is Broadcastnet's own skip.
   pub one-step : (n : Network) → Sound n → (e : Event) → EventFits e → refusal n b e ≡ 0 → Step b (image n) (image (effect n b e))
   -- Over a list of events the images of the states, in order, are a computation of Broadcastnet.
-  pub follows : (n : Network) → Sound n → (l : List Event) → Accepted n b l → Path b (image n) (images n b l)
+  pub follows : (n : Network) → Sound n → (l : List Event) → Accepted n b l → Path b (image n) (images n b l) (image (effects n b l))
   -- 004's WFS1 and WFS3: a state is related to its image; and if n is related to w and an event leads from n to o, then a step leads from w to a
   -- state that o is related to.
   pub maps : (n : Network) → Sound n → Related n (image n)

@@ -10,3 +10,5 @@ pub mod Alone
 pub mod StartLaws
 pub mod AloneLaws
 pub mod TurnLaws
+pub mod Looping
+pub mod RunEnds

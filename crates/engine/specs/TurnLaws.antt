@@ -1,6 +1,6 @@
 -- Laws of one event that was read, for the function that does it: by what was read. Assumes nothing.
 use mathlib.Core.Path.{_≡_, refl, sym, ap, subst, _∙_}
-use Prim.Native.Nat.{ℕ, _≤_}
+use Prim.Native.Nat.{ℕ, zero, suc, _≤_}
 use native.Mathlib.Omega.{arith}
 use Rattle.network.specs.declared.Network.{Network}
 use Rattle.network.specs.declared.Table.{Table}
@@ -9,7 +9,7 @@ use Rattle.events.specs.declared.Read.{Read}
 use Rattle.events.specs.declared.Read.the-variants.{Taken, End, Refused}
 use Rattle.events.specs.Fits.{EventFits}
 use Rattle.floodnet.specs.declared.Turned.{Turned}
-use Rattle.floodnet.specs.Step.{after, turnedOf}
+use Rattle.floodnet.specs.Step.{refusal, effect, ifAccepted, after, kindOf, deliveriesOf, turned, turnedOf}
 use Rattle.engine.specs.Run.{refusedBy, turnOf}
 use Rattle.engine.specs.RunSound.{ReadFits}
 
@@ -33,3 +33,14 @@ turn-end b n r k h = rw k (refl, (h, omega (arith, ap (λ (x : Turned). x .deliv
 pub turn-refused : (b : Table) (n : Network) (r : Turned) {read : Read} {number : ℕ} → read ≡ Refused number → r ≡ refusedBy number → Turn b n read n r
 unfolding turnOf
 turn-refused b n r k h = rw k (refl, (h, omega (arith, ap (λ (x : Turned). x .deliveries) h)))
+
+-- a refused event leaves the network as it was
+pub refused-same : (b : Table) (n : Network) (read : Read) → (turnOf b n read .turned .number ≡ 0 → ⊥) → turnOf b n read .network ≡ n
+unfolding turnOf turnedOf turned after ifAccepted
+refused-same b n (Taken e) h = first (refusal n b e) h
+  where
+    first : (k : ℕ) → (turned k (kindOf e) (deliveriesOf n b e) .number ≡ 0 → ⊥) → ifAccepted k (effect n b e) n ≡ n
+    first zero z = absurd (z refl)
+    first (suc k) z = refl
+refused-same b n End h = refl
+refused-same b n (Refused k) h = refl

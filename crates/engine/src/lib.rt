@@ -4,6 +4,9 @@ mod counts; // counts.rt: the update of the tally
 mod running; // running.rt: a run over a list of events
 mod start; // start.rt: the refusals 1 to 5
 
+ghost use mathlib.Core.Path.{_≡_};
+ghost use Rattle.engine.specs.Run.{runOf, Ends};
+
 use network::Network;
 use network::Table;
 
@@ -31,6 +34,16 @@ pub struct Forwarded {
     pub deliveries: u32,
 }
 
+// The answer of a drain: a refusal and its place, or the forwards made, the rounds finished and whether nothing is pending.
+#[repr(C)]
+pub struct Drained {
+    pub number: u8,
+    pub place: usize,
+    pub forwards: u32,
+    pub rounds: u32,
+    pub quiet: bool,
+}
+
 // The answer of an entry point that only reads or writes: 0, or a refusal and its place.
 #[repr(C)]
 pub struct Checked {
@@ -50,4 +63,25 @@ pub struct Begun {
 pub struct Ran {
     pub answer: Answer,
     pub network: Network,
+}
+
+// The run over a list of events. The host's own tally record is lent on, count by count, and is updated event by event; events are
+// taken through a reader. Proved by a walk.
+#[no_mangle]
+pub extern "C" fn relay_run(
+    state: &mut [u8],
+    table: &[u8],
+    events: &[u8],
+    tally: &mut Tally,
+) -> Answer
+    ensures { λ r. ⌜ Ends r (now (state .exit)) (now (tally .exit)) (runOf (now (state .entry)) (now (table .entry)) (now (events .entry)) (now (tally .entry))) ⌝ }
+{
+    running::run_core(
+        state,
+        table,
+        events,
+        &mut tally.produced,
+        &mut tally.forwards,
+        &mut tally.deliveries,
+    )
 }

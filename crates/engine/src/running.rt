@@ -7,6 +7,8 @@ ghost use Rattle.floodnet.specs.CodeForward.{table};
 ghost use Rattle.engine.specs.Run.{tally, refusedBy, turnOf, runAll, RunsTo, runOf, Ends};
 ghost use Rattle.engine.specs.RunSound.{ReadFits};
 
+use crate::counts;
+use crate::start;
 use crate::Answer;
 use crate::Ran;
 use events::Read;
@@ -59,4 +61,112 @@ fn turn(
         Read::End => refused(0),
         Read::Refused(k) => refused(k),
     }
+}
+
+// Every event of the list, from a network that was read; the lent counts start from zero.
+pub(crate) fn run_events(
+    n: Network,
+    rows: Table,
+    events: &[u8],
+    produced: &mut u64,
+    forwards: &mut u64,
+    deliveries: &mut u64,
+) -> Ran
+    requires { ⌜ Rows rows ⌝ }
+    ensures { λ r. ⌜ RunsTo r (tally (now (produced .exit)) (now (forwards .exit)) (now (deliveries .exit))) (runAll (now (events .entry)) rows n) ⌝ }
+{
+    *produced = 0;
+    *forwards = 0;
+    *deliveries = 0;
+    let topics = rows.topics;
+    let origins = rows.origins;
+    let mut present = n.present;
+    let mut pubs = n.pubs;
+    let mut subs = n.subs;
+    let mut neighbours = n.neighbours;
+    let mut pending = n.pending;
+    let mut seen = n.seen;
+    let mut known = n.known;
+    let count = events.len() / 16;
+    let mut place: usize = 0;
+    while place < count {
+        let turned = turn(
+            &mut present,
+            &mut pubs,
+            &mut subs,
+            &mut neighbours,
+            &mut pending,
+            &mut seen,
+            &mut known,
+            &topics,
+            &origins,
+            events::event_at(events, place),
+        );
+        let number = turned.number;
+        if number != 0 {
+            return Ran {
+                answer: Answer {
+                    number,
+                    place,
+                    accepted: place,
+                },
+                network: Network {
+                    present,
+                    pubs,
+                    subs,
+                    neighbours,
+                    pending,
+                    seen,
+                    known,
+                },
+            };
+        }
+        counts::count_in(&mut *produced, &mut *forwards, &mut *deliveries, turned.kind, turned.deliveries);
+        place += 1;
+    }
+    Ran {
+        answer: Answer {
+            number: 0,
+            place: 0,
+            accepted: place,
+        },
+        network: Network {
+            present,
+            pubs,
+            subs,
+            neighbours,
+            pending,
+            seen,
+            known,
+        },
+    }
+}
+
+// The run on bytes: refused before any event with everything untouched, or the events are run and the state is written. The three
+// counts are the host's own, lent one by one.
+pub(crate) fn run_core(
+    state: &mut [u8],
+    table: &[u8],
+    events: &[u8],
+    produced: &mut u64,
+    forwards: &mut u64,
+    deliveries: &mut u64,
+) -> Answer
+    ensures { λ r. ⌜ Ends r (now (state .exit)) (tally (now (produced .exit)) (now (forwards .exit)) (now (deliveries .exit))) (runOf (now (state .entry)) (now (table .entry)) (now (events .entry)) (tally (now (produced .entry)) (now (forwards .entry)) (now (deliveries .entry)))) ⌝ }
+{
+    let begun = start::begin(&*state, table, events.len());
+    if begun.number != 0 {
+        return Answer {
+            number: begun.number,
+            place: begun.place,
+            accepted: 0,
+        };
+    }
+    let n = begun.network;
+    let rows = begun.table;
+    let ran = run_events(n, rows, events, &mut *produced, &mut *forwards, &mut *deliveries);
+    let last = ran.network;
+    let answer = ran.answer;
+    network::put(last, &mut *state);
+    answer
 }

@@ -6,7 +6,6 @@ ghost use Rattle.sets.specs.Set.{has, sift, withIf};
 ghost use Rattle.lists.specs.Edit.{edit};
 ghost use Rattle.floodnet.specs.Topics.{withoutIf};
 ghost use Rattle.floodnet.specs.CodeArrays.{holding};
-
 use network::Message;
 use network::Peer;
 

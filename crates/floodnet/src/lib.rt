@@ -8,7 +8,6 @@ ghost use Rattle.network.specs.Network.{mk, Rows};
 ghost use Rattle.events.specs.Fits.{EventFits};
 ghost use Rattle.floodnet.specs.Step.{after, turnedOf};
 ghost use Rattle.floodnet.specs.CodeForward.{table};
-
 use events::Event;
 
 mod arrays; // arrays.rt: loops over the words of peers
@@ -46,11 +45,30 @@ pub fn step(
 {
     match e {
         Event::Skip => turns::done(0, 0),
-        Event::Produce(p, m) => turns::produce(*present, &*pubs, &mut *pending, &*seen, topics, origins, p, m),
-        Event::Forward(p, m) => turns::forward(*present, &mut *pending, &mut *seen, &*known, topics, p, m),
-        Event::Subscribe(p, t) => turns::subscribe(*present, &mut *subs, &*neighbours, &mut *known, p, t),
-        Event::Unsubscribe(p, t) => turns::unsubscribe(*present, &mut *subs, &*neighbours, &mut *known, p, t),
-        Event::Leave(p) => turns::leave(&mut *present, &mut *pubs, &mut *subs, &mut *neighbours, &mut *pending, &mut *seen, &mut *known, p),
-        Event::Join(p, j) => turns::join(&mut *present, &mut *pubs, &mut *subs, &mut *neighbours, &mut *pending, &mut *seen, &mut *known, p, j),
+        Event::Produce(p, m) => turns::produce(
+            *present,
+            pubs,
+            pending,
+            seen,
+            topics,
+            origins,
+            p,
+            m,
+        ),
+        Event::Forward(p, m) => turns::forward(*present, pending, seen, known, topics, p, m),
+        Event::Subscribe(p, t) => turns::subscribe(*present, subs, neighbours, known, p, t),
+        Event::Unsubscribe(p, t) => turns::unsubscribe(*present, subs, neighbours, known, p, t),
+        Event::Leave(p) => turns::leave(present, pubs, subs, neighbours, pending, seen, known, p),
+        Event::Join(p, j) => turns::join(
+            present,
+            pubs,
+            subs,
+            neighbours,
+            pending,
+            seen,
+            known,
+            p,
+            j,
+        ),
     }
 }

@@ -8,41 +8,58 @@ ghost use Rattle.network.specs.Network.{mk};
 ghost use Rattle.floodnet.specs.Topics.{subscribedTo, unsubscribedFrom};
 ghost use Rattle.floodnet.specs.Links.{linkUp, linkDown, cleared, placed, left, joined};
 ghost use Rattle.floodnet.specs.CodeLinks.{ofLinks, ofTopics};
-
 use super::arrays;
 use super::rows;
 use network::Peer;
 
 // "Topics join subs; neighbours' records follow."
-pub(crate) fn subscribe(subs: &mut [u32; 32], neighbours: &[u32; 32], known: &mut [u32; 1024], p: Peer, topics: u32)
+pub(crate) fn subscribe(
+    subs: &mut [u32; 32],
+    neighbours: &[u32; 32],
+    known: &mut [u32; 1024],
+    p: Peer,
+    topics: u32,
+)
     requires { ⌜ p .0 < 32 ⌝ }
     ensures { λ z. ⌜ ofLinks (now (subs .exit)) (now (neighbours .entry)) (now (known .exit)) ≡ subscribedTo (ofLinks (now (subs .entry)) (now (neighbours .entry)) (now (known .entry))) p topics ⌝ }
 {
     let i = p.0 as usize;
     subs[i] = sets::union32(subs[i], topics);
-    rows::note_all(&mut *known, neighbours[i], topics, p);
+    rows::note_all(known, neighbours[i], topics, p);
 }
 
 // "Topics leave subs; neighbours' records follow."
-pub(crate) fn unsubscribe(subs: &mut [u32; 32], neighbours: &[u32; 32], known: &mut [u32; 1024], p: Peer, topics: u32)
+pub(crate) fn unsubscribe(
+    subs: &mut [u32; 32],
+    neighbours: &[u32; 32],
+    known: &mut [u32; 1024],
+    p: Peer,
+    topics: u32,
+)
     requires { ⌜ p .0 < 32 ⌝ }
     ensures { λ z. ⌜ ofLinks (now (subs .exit)) (now (neighbours .entry)) (now (known .exit)) ≡ unsubscribedFrom (ofLinks (now (subs .entry)) (now (neighbours .entry)) (now (known .entry))) p topics ⌝ }
 {
     let i = p.0 as usize;
     subs[i] = sets::minus32(subs[i], topics);
-    rows::strike_all(&mut *known, neighbours[i], topics, p);
+    rows::strike_all(known, neighbours[i], topics, p);
 }
 
 // Both sides record: p and each of `who` list each other, and know each other for their topics.
-pub(crate) fn link_up(neighbours: &mut [u32; 32], subs: &[u32; 32], known: &mut [u32; 1024], p: Peer, who: u32)
+pub(crate) fn link_up(
+    neighbours: &mut [u32; 32],
+    subs: &[u32; 32],
+    known: &mut [u32; 1024],
+    p: Peer,
+    who: u32,
+)
     requires { ⌜ p .0 < 32 ⌝ }
     ensures { λ z. ⌜ ofLinks (now (subs .entry)) (now (neighbours .exit)) (now (known .exit)) ≡ linkUp (ofLinks (now (subs .entry)) (now (neighbours .entry)) (now (known .entry))) p who ⌝ }
 {
     let i = p.0 as usize;
     neighbours[i] = sets::union32(neighbours[i], who);
-    arrays::mark(&mut *neighbours, who, p);
-    rows::note_all(&mut *known, who, subs[i], p);
-    rows::learn(&mut *known, p, &*subs, who);
+    arrays::mark(neighbours, who, p);
+    rows::note_all(known, who, subs[i], p);
+    rows::learn(known, p, subs, who);
 }
 
 // Both sides forget: p and each of `who` neither list nor know each other.
@@ -52,9 +69,9 @@ pub(crate) fn link_down(neighbours: &mut [u32; 32], known: &mut [u32; 1024], p: 
 {
     let i = p.0 as usize;
     neighbours[i] = sets::minus32(neighbours[i], who);
-    arrays::unmark(&mut *neighbours, who, p);
-    rows::drop_all(&mut *known, who, p);
-    rows::row_minus(&mut *known, p, who);
+    arrays::unmark(neighbours, who, p);
+    rows::drop_all(known, who, p);
+    rows::row_minus(known, p, who);
 }
 
 // "Record becomes zero."
@@ -78,11 +95,18 @@ pub(crate) fn clear(
     neighbours[i] = 0;
     pending[i] = 0;
     seen[i] = 0;
-    rows::row_clear(&mut *known, p);
+    rows::row_clear(known, p);
 }
 
 // p is present, with these topics.
-pub(crate) fn place(present: &mut u32, pubs: &mut [u32; 32], subs: &mut [u32; 32], p: Peer, s: u32, b: u32)
+pub(crate) fn place(
+    present: &mut u32,
+    pubs: &mut [u32; 32],
+    subs: &mut [u32; 32],
+    p: Peer,
+    s: u32,
+    b: u32,
+)
     requires { ⌜ p .0 < 32 ⌝ }
     ensures { λ z. ⌜ ofTopics (now (present .exit)) (now (pubs .exit)) (now (subs .exit)) ≡ placed (ofTopics (now (present .entry)) (now (pubs .entry)) (now (subs .entry))) p s b ⌝ }
 {
@@ -107,8 +131,8 @@ pub(crate) fn leave(
     ensures { λ z. ⌜ mk (now (present .exit)) (now (pubs .exit)) (now (subs .exit)) (now (neighbours .exit)) (now (pending .exit)) (now (seen .exit)) (now (known .exit)) ≡ left (mk (now (present .entry)) (now (pubs .entry)) (now (subs .entry)) (now (neighbours .entry)) (now (pending .entry)) (now (seen .entry)) (now (known .entry))) p ⌝ }
 {
     let who = neighbours[p.0 as usize];
-    link_down(&mut *neighbours, &mut *known, p, who);
-    clear(&mut *present, &mut *pubs, &mut *subs, &mut *neighbours, &mut *pending, &mut *seen, &mut *known, p);
+    link_down(neighbours, known, p, who);
+    clear(present, pubs, subs, neighbours, pending, seen, known, p);
 }
 
 // "Record made with nothing pending or seen; both sides record link and subscriptions."
@@ -128,7 +152,7 @@ pub(crate) fn join(
     requires { ⌜ p .0 < 32 ⌝ }
     ensures { λ z. ⌜ mk (now (present .exit)) (now (pubs .exit)) (now (subs .exit)) (now (neighbours .exit)) (now (pending .exit)) (now (seen .exit)) (now (known .exit)) ≡ joined (mk (now (present .entry)) (now (pubs .entry)) (now (subs .entry)) (now (neighbours .entry)) (now (pending .entry)) (now (seen .entry)) (now (known .entry))) p s b who ⌝ }
 {
-    clear(&mut *present, &mut *pubs, &mut *subs, &mut *neighbours, &mut *pending, &mut *seen, &mut *known, p);
-    place(&mut *present, &mut *pubs, &mut *subs, p, s, b);
-    link_up(&mut *neighbours, &*subs, &mut *known, p, who);
+    clear(present, pubs, subs, neighbours, pending, seen, known, p);
+    place(present, pubs, subs, p, s, b);
+    link_up(neighbours, subs, known, p, who);
 }

@@ -8,7 +8,6 @@ ghost use lib.ListN.{getD};
 ghost use Rattle.floodnet.specs.Produce.{produced};
 ghost use Rattle.floodnet.specs.Forward.{receivers, forwarded};
 ghost use Rattle.floodnet.specs.CodeForward.{table, ofMessages};
-
 use super::arrays;
 use network::Message;
 use network::Peer;
@@ -41,8 +40,8 @@ pub fn forward(
     seen[i] = sets::with64(seen[i], b);
     let k = i * 32 + topics[m.0 as usize] as usize;
     let near = known[k];
-    let held = arrays::holders(&*pending, &*seen, near, m);
+    let held = arrays::holders(pending, seen, near, m);
     let r = sets::minus32(near, held);
-    arrays::give(&mut *pending, r, m);
+    arrays::give(pending, r, m);
     r
 }

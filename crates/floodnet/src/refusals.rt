@@ -7,7 +7,6 @@ ghost use lib.ListN.{getD};
 ghost use Rattle.network.specs.Network.{mk};
 ghost use Rattle.floodnet.specs.Refusals.{refusalProduce, refusalForward, refusalTopics, refusalLeave, refusalJoin};
 ghost use Rattle.floodnet.specs.CodeForward.{table};
-
 use super::arrays;
 use network::Message;
 use network::Peer;

@@ -10,7 +10,6 @@ ghost use Rattle.lists.specs.Edit.{edit};
 ghost use Rattle.floodnet.specs.Topics.{withoutIf, noted, struck};
 ghost use Rattle.floodnet.specs.Links.{minusIf, keepIf};
 ghost use Rattle.floodnet.specs.CodeWalks.{learnt};
-
 use network::Peer;
 
 // `row` knows `who` for each of these topics.
@@ -74,7 +73,7 @@ pub(crate) fn note_all(known: &mut [u32; 1024], who: u32, topics: u32, p: Peer)
     let mut left = who;
     while left != 0 {
         let q = Peer(sets::lowest32(left) as u8);
-        row_note(&mut *known, q, topics, p);
+        row_note(known, q, topics, p);
         left = sets::rest32(left);
     }
 }
@@ -87,7 +86,7 @@ pub(crate) fn strike_all(known: &mut [u32; 1024], who: u32, topics: u32, p: Peer
     let mut left = who;
     while left != 0 {
         let q = Peer(sets::lowest32(left) as u8);
-        row_strike(&mut *known, q, topics, p);
+        row_strike(known, q, topics, p);
         left = sets::rest32(left);
     }
 }
@@ -101,7 +100,7 @@ pub(crate) fn drop_all(known: &mut [u32; 1024], who: u32, p: Peer)
     let mut left = who;
     while left != 0 {
         let q = Peer(sets::lowest32(left) as u8);
-        row_minus(&mut *known, q, own);
+        row_minus(known, q, own);
         left = sets::rest32(left);
     }
 }
@@ -115,7 +114,7 @@ pub(crate) fn learn(known: &mut [u32; 1024], p: Peer, subs: &[u32; 32], who: u32
     while left != 0 {
         let q = sets::lowest32(left);
         let topics = subs[q as usize];
-        row_note(&mut *known, p, topics, Peer(q as u8));
+        row_note(known, p, topics, Peer(q as u8));
         left = sets::rest32(left);
     }
 }

@@ -13,11 +13,10 @@ ghost use Rattle.floodnet.specs.Refusals.{refusalProduce, refusalForward
 ghost use Rattle.floodnet.specs.Step.{turned};
 ghost use Rattle.floodnet.specs.CodeForward.{table};
 ghost use Rattle.floodnet.specs.CodeTurns.{Took};
-
+use super::Turned;
 use super::links;
 use super::messages;
 use super::refusals;
-use super::Turned;
 use events::Joining;
 use network::Message;
 use network::Peer;
@@ -58,11 +57,11 @@ pub(crate) fn produce(
     requires { ⌜ (p .0 < 32) × (m .0 < 64) × (getD (now topics) (m .0) 0 < 32) ⌝ }
     ensures { λ r. ⌜ Took (λ n. refusalProduce n (table (now (topics .entry)) (now (origins .entry))) p m) 1 (λ n. 0) (λ n. produced n p m) (mk present (now (pubs .entry)) [] [] (now (pending .entry)) (now (seen .entry)) []) (mk present (now (pubs .entry)) [] [] (now (pending .exit)) (now (seen .entry)) []) r ⌝ }
 {
-    let k = refusals::of_produce(present, pubs, &*pending, seen, topics, origins, p, m);
+    let k = refusals::of_produce(present, pubs, pending, seen, topics, origins, p, m);
     if k != 0 {
         return refused(k);
     }
-    messages::produce(&mut *pending, p, m);
+    messages::produce(pending, p, m);
     done(1, 0)
 }
 
@@ -78,11 +77,11 @@ pub(crate) fn forward(
     requires { ⌜ (p .0 < 32) × (m .0 < 64) × (getD (now topics) (m .0) 0 < 32) ⌝ }
     ensures { λ r. ⌜ Took (λ n. refusalForward n p m) 2 (λ n. deliveries n (table (now (topics .entry)) []) p m) (λ n. forwarded n (table (now (topics .entry)) []) p m) (mk present [] [] [] (now (pending .entry)) (now (seen .entry)) (now (known .entry))) (mk present [] [] [] (now (pending .exit)) (now (seen .exit)) (now (known .entry))) r ⌝ }
 {
-    let k = refusals::of_forward(present, &*pending, p, m);
+    let k = refusals::of_forward(present, pending, p, m);
     if k != 0 {
         return refused(k);
     }
-    let receivers = messages::forward(&mut *pending, &mut *seen, known, topics, p, m);
+    let receivers = messages::forward(pending, seen, known, topics, p, m);
     let count = sets::size32(receivers);
     done(2, count)
 }
@@ -102,7 +101,7 @@ pub(crate) fn subscribe(
     if k != 0 {
         return refused(k);
     }
-    links::subscribe(&mut *subs, neighbours, &mut *known, p, topics);
+    links::subscribe(subs, neighbours, known, p, topics);
     done(0, 0)
 }
 
@@ -121,7 +120,7 @@ pub(crate) fn unsubscribe(
     if k != 0 {
         return refused(k);
     }
-    links::unsubscribe(&mut *subs, neighbours, &mut *known, p, topics);
+    links::unsubscribe(subs, neighbours, known, p, topics);
     done(0, 0)
 }
 
@@ -138,11 +137,11 @@ pub(crate) fn leave(
     requires { ⌜ p .0 < 32 ⌝ }
     ensures { λ r. ⌜ Took (λ n. refusalLeave n p) 0 (λ n. 0) (λ n. left n p) (mk (now (present .entry)) (now (pubs .entry)) (now (subs .entry)) (now (neighbours .entry)) (now (pending .entry)) (now (seen .entry)) (now (known .entry))) (mk (now (present .exit)) (now (pubs .exit)) (now (subs .exit)) (now (neighbours .exit)) (now (pending .exit)) (now (seen .exit)) (now (known .exit))) r ⌝ }
 {
-    let k = refusals::of_leave(*present, &*pending, p);
+    let k = refusals::of_leave(*present, pending, p);
     if k != 0 {
         return refused(k);
     }
-    links::leave(&mut *present, &mut *pubs, &mut *subs, &mut *neighbours, &mut *pending, &mut *seen, &mut *known, p);
+    links::leave(present, pubs, subs, neighbours, pending, seen, known, p);
     done(0, 0)
 }
 
@@ -166,13 +165,13 @@ pub(crate) fn join(
         return refused(k);
     }
     links::join(
-        &mut *present,
-        &mut *pubs,
-        &mut *subs,
-        &mut *neighbours,
-        &mut *pending,
-        &mut *seen,
-        &mut *known,
+        present,
+        pubs,
+        subs,
+        neighbours,
+        pending,
+        seen,
+        known,
         p,
         j.subs,
         j.pubs,

@@ -2,7 +2,7 @@
 use mathlib.Core.Path.{_≡_, refl, sym, ap, _∙_}
 use mathlib.Core.Bool.{Bool, true, false, cond, not, _&&_}
 use mathlib.Core.List.{List}
-use Prim.Native.Nat.{ℕ, _+_, _≤_, _<_}
+use Prim.Native.Nat.{ℕ, suc, _+_, _≤_, _<_}
 use native.Mathlib.Omega.{arith}
 use lib.Dec.{eqb, ltb}
 use lib.ListN.{getD}
@@ -16,7 +16,12 @@ use Rattle.network.specs.Network.{peer, mk, topic, pubsOf, subsOf, neigh
 use Rattle.network.specs.Sound.{Empty}
 use Rattle.network.specs.Rules.{headRight, emptyRight, ownRight, nearRight, backRight, knownRight, apartRight, unless, absentFault, presentFault, faultOf, faulty, lowestBy}
 
--- six that all hold, and back
+-- no number is given: the rule holds, and what comes after it gives none either
+pub unless-none : (a : Bool) (k rest : ℕ) → unless a (suc k) rest ≡ 0 → (a ≡ true) × (rest ≡ 0)
+unless-none true k rest h = (refl, h)
+unless-none false k rest h = absurd (omega arith)
+
+-- six that all hold
 six-yes : (a b c d e f : Bool) → a && (b && (c && (d && (e && f)))) ≡ true → (a ≡ true) × (b ≡ true) × (c ≡ true) × (d ≡ true) × (e ≡ true) × (f ≡ true)
 six-yes a b c d e f h =
     let p = and-yes a _ h in

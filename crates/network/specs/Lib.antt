@@ -8,6 +8,8 @@ pub mod Backing
 pub mod State
 pub mod SoundIff
 pub mod Zeros
+pub mod OpenedSound
+pub mod Trips
 pub mod Layout
 pub mod Opening
 pub mod Storing

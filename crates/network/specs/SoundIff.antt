@@ -22,14 +22,10 @@ use Rattle.network.specs.declared.Network.{Network}
 use Rattle.network.specs.Network.{peer, topic, message, neighboursOf, pendingOf, knownOf, present, subscribed, linked, pending, saw, knows, Shaped}
 use Rattle.network.specs.Sound.{Empty, Sound}
 use Rattle.network.specs.SoundLaws.{linked-peer, linked-other, pending-peer}
-use Rattle.network.specs.Rules.{emptyRight, ownRight, nearRight, backRight, knownRight, apartRight, unless, absentFault, presentFault, faultOf, headOf, faultIn}
-use Rattle.network.specs.Faults.{empty-why, fault-empty, fault-none, fault-absent, fault-present}
+use Rattle.network.specs.Rules.{emptyRight, ownRight, nearRight, backRight, knownRight, apartRight, absentFault, presentFault, faultOf, headOf, faultIn}
+use Rattle.network.specs.Faults.{unless-none, empty-why, fault-empty, fault-none, fault-absent, fault-present}
 
 -- ---- a record with no fault keeps every rule
-
-unless-none : (a : Bool) (k rest : ℕ) → unless a (suc k) rest ≡ 0 → (a ≡ true) × (rest ≡ 0)
-unless-none true k rest h = (refl, h)
-unless-none false k rest h = absurd (omega arith)
 
 -- the five rules of a present record
 record Keeps (n : Network) (p : Peer) : Type 0 where

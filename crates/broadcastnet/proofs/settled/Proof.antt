@@ -1,11 +1,11 @@
 -- `broadcastnet::settled` meets its contract: after q turns the first q sets are those of `without`. Assumes nothing.
 use borrow.Author.Needs.{needs}
-use mathlib.Core.Path.{_≡_, refl, sym, ap, _∙_}
+use mathlib.Core.Path.{_≡_}
 use Prim.Native.Nat.{ℕ, _-_, _≤_}
 use native.Mathlib.Omega.{arith}
 use lib.ListN.{getD, length-replicate}
 use Rattle.sets.specs.Set.{minus}
-use Rattle.lists.specs.Tab.{Filled, filled-none, filled-more, filled-all}
+use Rattle.lists.specs.Tab.{Filled, filled-none, filled-more}
 use Rattle.broadcastnet.specs.CommitLaws.{without-filled}
 use Rattle.broadcastnet.proofs.settled.Statement.{statement}
 use Rattle.broadcastnet.proofs.settled.Tie as tie

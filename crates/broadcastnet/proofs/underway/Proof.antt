@@ -1,7 +1,7 @@
 -- `broadcastnet::underway` meets its contract: after p turns it has what the first p words have together. Assumes nothing.
 use borrow.Author.Needs.{needs}
-use mathlib.Core.Path.{_≡_, refl, sym, ap, _∙_}
-use Prim.Native.Nat.{ℕ, _-_, _≤_}
+use mathlib.Core.Path.{_≡_, refl}
+use Prim.Native.Nat.{_-_, _≤_}
 use native.Mathlib.Omega.{arith}
 use Rattle.broadcastnet.specs.Commit.{together}
 use Rattle.broadcastnet.specs.CommitLaws.{together-more}

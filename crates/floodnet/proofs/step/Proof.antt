@@ -4,15 +4,6 @@ use Rattle.events.specs.Fits.{EventFits}
 use Rattle.floodnet.specs.CodeTurns.{fits-as, stepped-as, step-skip, step-produce, step-forward, step-subscribe, step-unsubscribe, step-leave, step-join}
 use Rattle.floodnet.proofs.step.Statement.{statement}
 use Rattle.floodnet.proofs.step.Tie as tie
-use Rattle.floodnet.proofs.step.Reads as reads
-use Rattle.floodnet.proofs.step.Lts as lts
-use Rattle.floodnet.proofs.turns.done.Reads as done-reads
-use Rattle.floodnet.proofs.turns.forward.Reads as forward-reads
-use Rattle.floodnet.proofs.turns.join.Reads as join-reads
-use Rattle.floodnet.proofs.turns.leave.Reads as leave-reads
-use Rattle.floodnet.proofs.turns.produce.Reads as produce-reads
-use Rattle.floodnet.proofs.turns.subscribe.Reads as subscribe-reads
-use Rattle.floodnet.proofs.turns.unsubscribe.Reads as unsubscribe-reads
 
 enum-told : tie.Need-enum-told
 enum-told c = search needs

@@ -8,11 +8,6 @@ use Rattle.floodnet.specs.CodeWhen.{puts, Picking, picking-none, picks-w
 use Rattle.floodnet.specs.CodeArrays.{marking}
 use Rattle.floodnet.proofs.arrays.give.Statement.{statement}
 use Rattle.floodnet.proofs.arrays.give.Tie as tie
-use Rattle.floodnet.proofs.arrays.give.Reads as reads
-use Rattle.floodnet.proofs.arrays.give.Lts as lts
-use Rattle.sets.proofs.lowest32.Reads as lowest32-reads
-use Rattle.sets.proofs.rest32.Reads as rest32-reads
-use Rattle.sets.proofs.with64.Reads as with64-reads
 
 abbrev Inv-loop : tie.InvT-loop
 Inv-loop pending₀ r i left₀ pending left = Picking r left has (puts i) pending₀ pending

@@ -6,13 +6,6 @@ use Rattle.sets.specs.Visits.{Visit, visit-none, visit-yes, visit-no, visit-don
 use Rattle.floodnet.specs.CodeArrays.{holding, holding-is}
 use Rattle.floodnet.proofs.arrays.holders.Statement.{statement}
 use Rattle.floodnet.proofs.arrays.holders.Tie as tie
-use Rattle.floodnet.proofs.arrays.holders.Reads as reads
-use Rattle.floodnet.proofs.arrays.holders.Lts as lts
-use Rattle.sets.proofs.has64.Reads as has64-reads
-use Rattle.sets.proofs.lowest32.Reads as lowest32-reads
-use Rattle.sets.proofs.rest32.Reads as rest32-reads
-use Rattle.sets.proofs.union64.Reads as union64-reads
-use Rattle.sets.proofs.with32.Reads as with32-reads
 
 abbrev Inv-loop : tie.InvT-loop
 Inv-loop pending seen s i r₀ left₀ r left = Visit 32 s left r (holding pending seen i)

@@ -8,11 +8,6 @@ use Rattle.floodnet.specs.CodeWhen.{puts, Picking, picking-none, picks-w
 use Rattle.floodnet.specs.CodeArrays.{marking}
 use Rattle.floodnet.proofs.arrays.mark.Statement.{statement}
 use Rattle.floodnet.proofs.arrays.mark.Tie as tie
-use Rattle.floodnet.proofs.arrays.mark.Reads as reads
-use Rattle.floodnet.proofs.arrays.mark.Lts as lts
-use Rattle.sets.proofs.lowest32.Reads as lowest32-reads
-use Rattle.sets.proofs.rest32.Reads as rest32-reads
-use Rattle.sets.proofs.with32.Reads as with32-reads
 
 abbrev Inv-loop : tie.InvT-loop
 Inv-loop neighbours₀ who i left₀ neighbours left = Picking who left has (puts i) neighbours₀ neighbours

@@ -8,11 +8,6 @@ use Rattle.floodnet.specs.CodeWhen.{strikes, Picking, picking-none, pick
 use Rattle.floodnet.specs.CodeArrays.{unmarking}
 use Rattle.floodnet.proofs.arrays.unmark.Statement.{statement}
 use Rattle.floodnet.proofs.arrays.unmark.Tie as tie
-use Rattle.floodnet.proofs.arrays.unmark.Reads as reads
-use Rattle.floodnet.proofs.arrays.unmark.Lts as lts
-use Rattle.sets.proofs.lowest32.Reads as lowest32-reads
-use Rattle.sets.proofs.rest32.Reads as rest32-reads
-use Rattle.sets.proofs.without32.Reads as without32-reads
 
 abbrev Inv-loop : tie.InvT-loop
 Inv-loop neighbours₀ who i left₀ neighbours left = Picking who left has (strikes (only i)) neighbours₀ neighbours

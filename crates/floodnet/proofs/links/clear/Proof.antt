@@ -3,10 +3,6 @@ use borrow.Author.Needs.{needs}
 use Rattle.floodnet.specs.CodeLinks.{cleared-law}
 use Rattle.floodnet.proofs.links.clear.Statement.{statement}
 use Rattle.floodnet.proofs.links.clear.Tie as tie
-use Rattle.floodnet.proofs.links.clear.Reads as reads
-use Rattle.floodnet.proofs.links.clear.Lts as lts
-use Rattle.floodnet.proofs.rows.row_clear.Reads as row-clear-reads
-use Rattle.sets.proofs.without32.Reads as without32-reads
 
 cast-i : tie.Need-cast-i
 cast-i c = search needs

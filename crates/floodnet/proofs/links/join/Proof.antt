@@ -3,11 +3,6 @@ use borrow.Author.Needs.{needs}
 use Rattle.floodnet.specs.CodeLinks.{joined-law}
 use Rattle.floodnet.proofs.links.join.Statement.{statement}
 use Rattle.floodnet.proofs.links.join.Tie as tie
-use Rattle.floodnet.proofs.links.join.Reads as reads
-use Rattle.floodnet.proofs.links.join.Lts as lts
-use Rattle.floodnet.proofs.links.clear.Reads as clear-reads
-use Rattle.floodnet.proofs.links.link_up.Reads as link-up-reads
-use Rattle.floodnet.proofs.links.place.Reads as place-reads
 
 clear-requires : tie.Need-clear-requires
 clear-requires c κs = search needs

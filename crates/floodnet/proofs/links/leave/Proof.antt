@@ -3,10 +3,6 @@ use borrow.Author.Needs.{needs}
 use Rattle.floodnet.specs.CodeLinks.{left-law}
 use Rattle.floodnet.proofs.links.leave.Statement.{statement}
 use Rattle.floodnet.proofs.links.leave.Tie as tie
-use Rattle.floodnet.proofs.links.leave.Reads as reads
-use Rattle.floodnet.proofs.links.leave.Lts as lts
-use Rattle.floodnet.proofs.links.clear.Reads as clear-reads
-use Rattle.floodnet.proofs.links.link_down.Reads as link-down-reads
 
 cast-who : tie.Need-cast-who
 cast-who c = search needs

@@ -3,12 +3,6 @@ use borrow.Author.Needs.{needs}
 use Rattle.floodnet.specs.CodeLinks.{linkDown-law}
 use Rattle.floodnet.proofs.links.link_down.Statement.{statement}
 use Rattle.floodnet.proofs.links.link_down.Tie as tie
-use Rattle.floodnet.proofs.links.link_down.Reads as reads
-use Rattle.floodnet.proofs.links.link_down.Lts as lts
-use Rattle.floodnet.proofs.arrays.unmark.Reads as unmark-reads
-use Rattle.floodnet.proofs.rows.drop_all.Reads as drop-all-reads
-use Rattle.floodnet.proofs.rows.row_minus.Reads as row-minus-reads
-use Rattle.sets.proofs.minus32.Reads as minus32-reads
 
 cast-i : tie.Need-cast-i
 cast-i c = search needs

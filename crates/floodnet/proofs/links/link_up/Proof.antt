@@ -3,12 +3,6 @@ use borrow.Author.Needs.{needs}
 use Rattle.floodnet.specs.CodeLinks.{linkUp-law}
 use Rattle.floodnet.proofs.links.link_up.Statement.{statement}
 use Rattle.floodnet.proofs.links.link_up.Tie as tie
-use Rattle.floodnet.proofs.links.link_up.Reads as reads
-use Rattle.floodnet.proofs.links.link_up.Lts as lts
-use Rattle.floodnet.proofs.arrays.mark.Reads as mark-reads
-use Rattle.floodnet.proofs.rows.learn.Reads as learn-reads
-use Rattle.floodnet.proofs.rows.note_all.Reads as note-all-reads
-use Rattle.sets.proofs.union32.Reads as union32-reads
 
 cast-i : tie.Need-cast-i
 cast-i c = search needs

@@ -3,9 +3,6 @@ use borrow.Author.Needs.{needs}
 use Rattle.floodnet.specs.CodeLinks.{placed-law}
 use Rattle.floodnet.proofs.links.place.Statement.{statement}
 use Rattle.floodnet.proofs.links.place.Tie as tie
-use Rattle.floodnet.proofs.links.place.Reads as reads
-use Rattle.floodnet.proofs.links.place.Lts as lts
-use Rattle.sets.proofs.with32.Reads as with32-reads
 
 cast-i : tie.Need-cast-i
 cast-i c = search needs

@@ -3,10 +3,6 @@ use borrow.Author.Needs.{needs}
 use Rattle.floodnet.specs.CodeLinks.{subscribed-law}
 use Rattle.floodnet.proofs.links.subscribe.Statement.{statement}
 use Rattle.floodnet.proofs.links.subscribe.Tie as tie
-use Rattle.floodnet.proofs.links.subscribe.Reads as reads
-use Rattle.floodnet.proofs.links.subscribe.Lts as lts
-use Rattle.floodnet.proofs.rows.note_all.Reads as note-all-reads
-use Rattle.sets.proofs.union32.Reads as union32-reads
 
 cast-i : tie.Need-cast-i
 cast-i c = search needs

@@ -3,10 +3,6 @@ use borrow.Author.Needs.{needs}
 use Rattle.floodnet.specs.CodeLinks.{unsubscribed-law}
 use Rattle.floodnet.proofs.links.unsubscribe.Statement.{statement}
 use Rattle.floodnet.proofs.links.unsubscribe.Tie as tie
-use Rattle.floodnet.proofs.links.unsubscribe.Reads as reads
-use Rattle.floodnet.proofs.links.unsubscribe.Lts as lts
-use Rattle.floodnet.proofs.rows.strike_all.Reads as strike-all-reads
-use Rattle.sets.proofs.minus32.Reads as minus32-reads
 
 cast-i : tie.Need-cast-i
 cast-i c = search needs

@@ -3,13 +3,6 @@ use borrow.Author.Needs.{needs}
 use Rattle.floodnet.specs.CodeForward.{receivers-law, forwarded-law}
 use Rattle.floodnet.proofs.messages.forward.Statement.{statement}
 use Rattle.floodnet.proofs.messages.forward.Tie as tie
-use Rattle.floodnet.proofs.messages.forward.Reads as reads
-use Rattle.floodnet.proofs.messages.forward.Lts as lts
-use Rattle.floodnet.proofs.arrays.give.Reads as give-reads
-use Rattle.floodnet.proofs.arrays.holders.Reads as holders-reads
-use Rattle.sets.proofs.minus32.Reads as minus32-reads
-use Rattle.sets.proofs.with64.Reads as with64-reads
-use Rattle.sets.proofs.without64.Reads as without64-reads
 
 cast-i : tie.Need-cast-i
 cast-i c = search needs

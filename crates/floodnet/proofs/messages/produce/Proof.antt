@@ -3,9 +3,6 @@ use borrow.Author.Needs.{needs}
 use Rattle.floodnet.specs.CodeForward.{produced-law}
 use Rattle.floodnet.proofs.messages.produce.Statement.{statement}
 use Rattle.floodnet.proofs.messages.produce.Tie as tie
-use Rattle.floodnet.proofs.messages.produce.Reads as reads
-use Rattle.floodnet.proofs.messages.produce.Lts as lts
-use Rattle.sets.proofs.with64.Reads as with64-reads
 
 cast-i : tie.Need-cast-i
 cast-i c = search needs

@@ -5,10 +5,6 @@ use Rattle.floodnet.specs.Refusals.{refusalForward}
 use Rattle.floodnet.specs.CodeRefusals.{need-fails, need-holds, test-fails, test-holds}
 use Rattle.floodnet.proofs.refusals.of_forward.Statement.{statement}
 use Rattle.floodnet.proofs.refusals.of_forward.Tie as tie
-use Rattle.floodnet.proofs.refusals.of_forward.Reads as reads
-use Rattle.floodnet.proofs.refusals.of_forward.Lts as lts
-use Rattle.sets.proofs.has32.Reads as has32-reads
-use Rattle.sets.proofs.has64.Reads as has64-reads
 
 cast-has32 : tie.Need-cast-has32
 cast-has32 c = search needs

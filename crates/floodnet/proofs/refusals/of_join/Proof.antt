@@ -5,10 +5,6 @@ use Rattle.floodnet.specs.Refusals.{refusalJoin}
 use Rattle.floodnet.specs.CodeRefusals.{need-fails, need-holds, test-bars, test-frees, some-fails, none-holds}
 use Rattle.floodnet.proofs.refusals.of_join.Statement.{statement}
 use Rattle.floodnet.proofs.refusals.of_join.Tie as tie
-use Rattle.floodnet.proofs.refusals.of_join.Reads as reads
-use Rattle.floodnet.proofs.refusals.of_join.Lts as lts
-use Rattle.sets.proofs.has32.Reads as has32-reads
-use Rattle.sets.proofs.minus32.Reads as minus32-reads
 
 cast-has32 : tie.Need-cast-has32
 cast-has32 c = search needs

@@ -5,9 +5,6 @@ use Rattle.floodnet.specs.Refusals.{refusalLeave}
 use Rattle.floodnet.specs.CodeRefusals.{need-fails, need-holds, test-fails, test-holds, some-fails, none-holds}
 use Rattle.floodnet.proofs.refusals.of_leave.Statement.{statement}
 use Rattle.floodnet.proofs.refusals.of_leave.Tie as tie
-use Rattle.floodnet.proofs.refusals.of_leave.Reads as reads
-use Rattle.floodnet.proofs.refusals.of_leave.Lts as lts
-use Rattle.sets.proofs.has32.Reads as has32-reads
 
 cast-has32 : tie.Need-cast-has32
 cast-has32 c = search needs

@@ -9,10 +9,6 @@ use Rattle.floodnet.specs.Refusals.{refusalProduce}
 use Rattle.floodnet.specs.CodeRefusals.{need-fails, need-holds, test-fails, test-holds, some-fails, none-holds, holders-is}
 use Rattle.floodnet.proofs.refusals.of_produce.Statement.{statement}
 use Rattle.floodnet.proofs.refusals.of_produce.Tie as tie
-use Rattle.floodnet.proofs.refusals.of_produce.Reads as reads
-use Rattle.floodnet.proofs.refusals.of_produce.Lts as lts
-use Rattle.floodnet.proofs.arrays.holders.Reads as holders-reads
-use Rattle.sets.proofs.has32.Reads as has32-reads
 
 cast-has32 : tie.Need-cast-has32
 cast-has32 c = search needs

@@ -5,9 +5,6 @@ use Rattle.floodnet.specs.Refusals.{refusalTopics}
 use Rattle.floodnet.specs.CodeRefusals.{need-fails, need-holds, test-fails, test-holds}
 use Rattle.floodnet.proofs.refusals.of_topics.Statement.{statement}
 use Rattle.floodnet.proofs.refusals.of_topics.Tie as tie
-use Rattle.floodnet.proofs.refusals.of_topics.Reads as reads
-use Rattle.floodnet.proofs.refusals.of_topics.Lts as lts
-use Rattle.sets.proofs.has32.Reads as has32-reads
 
 cast-has32 : tie.Need-cast-has32
 cast-has32 c = search needs

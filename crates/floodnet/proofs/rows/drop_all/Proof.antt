@@ -6,12 +6,6 @@ use Rattle.floodnet.specs.CodeWhen.{strikes, Picking, picking-none}
 use Rattle.floodnet.specs.CodeWalks.{rows, rows-none, rows-dropped, dropping-row}
 use Rattle.floodnet.proofs.rows.drop_all.Statement.{statement}
 use Rattle.floodnet.proofs.rows.drop_all.Tie as tie
-use Rattle.floodnet.proofs.rows.drop_all.Reads as reads
-use Rattle.floodnet.proofs.rows.drop_all.Lts as lts
-use Rattle.floodnet.proofs.rows.row_minus.Reads as row-minus-reads
-use Rattle.sets.proofs.lowest32.Reads as lowest32-reads
-use Rattle.sets.proofs.rest32.Reads as rest32-reads
-use Rattle.sets.proofs.with32.Reads as with32-reads
 
 abbrev Inv-loop : tie.InvT-loop
 Inv-loop known₀ who own left₀ known left = Picking who left rows (strikes own) known₀ known

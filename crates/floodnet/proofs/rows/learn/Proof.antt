@@ -4,11 +4,6 @@ use Rattle.floodnet.specs.CodeVisit.{Along, along-none, along-done}
 use Rattle.floodnet.specs.CodeWalks.{learnt, learnt-none, learning}
 use Rattle.floodnet.proofs.rows.learn.Statement.{statement}
 use Rattle.floodnet.proofs.rows.learn.Tie as tie
-use Rattle.floodnet.proofs.rows.learn.Reads as reads
-use Rattle.floodnet.proofs.rows.learn.Lts as lts
-use Rattle.floodnet.proofs.rows.row_note.Reads as row-note-reads
-use Rattle.sets.proofs.lowest32.Reads as lowest32-reads
-use Rattle.sets.proofs.rest32.Reads as rest32-reads
 
 abbrev Inv-loop : tie.InvT-loop
 Inv-loop known₀ p subs who left₀ known left = Along who left (learnt (p .0) subs) known₀ known

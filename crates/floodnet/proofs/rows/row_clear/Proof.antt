@@ -8,8 +8,6 @@ use Rattle.floodnet.specs.CodeWhen.{blanks, picks}
 use Rattle.floodnet.specs.CodeRows.{front, row-none, row-clear-more, row-clear-all}
 use Rattle.floodnet.proofs.rows.row_clear.Statement.{statement}
 use Rattle.floodnet.proofs.rows.row_clear.Tie as tie
-use Rattle.floodnet.proofs.rows.row_clear.Reads as reads
-use Rattle.floodnet.proofs.rows.row_clear.Lts as lts
 
 abbrev Inv-loop : tie.InvT-loop
 Inv-loop known₀ r t₀ known t = (t ≤ 32) × (known ≡ edit (picks (front r t) blanks) known₀)

@@ -8,9 +8,6 @@ use Rattle.floodnet.specs.CodeWhen.{strikes, picks}
 use Rattle.floodnet.specs.CodeRows.{front, row-none, row-minus-more, row-minus-all}
 use Rattle.floodnet.proofs.rows.row_minus.Statement.{statement}
 use Rattle.floodnet.proofs.rows.row_minus.Tie as tie
-use Rattle.floodnet.proofs.rows.row_minus.Reads as reads
-use Rattle.floodnet.proofs.rows.row_minus.Lts as lts
-use Rattle.sets.proofs.minus32.Reads as minus32-reads
 
 abbrev Inv-loop : tie.InvT-loop
 Inv-loop known₀ s r t₀ known t = (t ≤ 32) × (known ≡ edit (picks (front r t) (strikes s)) known₀)

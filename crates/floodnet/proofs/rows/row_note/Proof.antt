@@ -7,11 +7,6 @@ use Rattle.floodnet.specs.CodeWhen.{puts, Picking, picking-none}
 use Rattle.floodnet.specs.CodeArrays.{inside, inside-no-topic, inside-noted, noting}
 use Rattle.floodnet.proofs.rows.row_note.Statement.{statement}
 use Rattle.floodnet.proofs.rows.row_note.Tie as tie
-use Rattle.floodnet.proofs.rows.row_note.Reads as reads
-use Rattle.floodnet.proofs.rows.row_note.Lts as lts
-use Rattle.sets.proofs.lowest32.Reads as lowest32-reads
-use Rattle.sets.proofs.rest32.Reads as rest32-reads
-use Rattle.sets.proofs.with32.Reads as with32-reads
 
 abbrev Inv-loop : tie.InvT-loop
 Inv-loop known₀ topics r i left₀ known left = Picking topics left (inside (only r)) (puts i) known₀ known

@@ -7,11 +7,6 @@ use Rattle.floodnet.specs.CodeWhen.{strikes, Picking, picking-none}
 use Rattle.floodnet.specs.CodeArrays.{inside, inside-no-topic, inside-struck, striking}
 use Rattle.floodnet.proofs.rows.row_strike.Statement.{statement}
 use Rattle.floodnet.proofs.rows.row_strike.Tie as tie
-use Rattle.floodnet.proofs.rows.row_strike.Reads as reads
-use Rattle.floodnet.proofs.rows.row_strike.Lts as lts
-use Rattle.sets.proofs.lowest32.Reads as lowest32-reads
-use Rattle.sets.proofs.rest32.Reads as rest32-reads
-use Rattle.sets.proofs.without32.Reads as without32-reads
 
 abbrev Inv-loop : tie.InvT-loop
 Inv-loop known₀ topics r i left₀ known left = Picking topics left (inside (only r)) (strikes (only i)) known₀ known

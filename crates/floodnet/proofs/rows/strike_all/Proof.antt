@@ -8,11 +8,6 @@ use Rattle.floodnet.specs.CodeArrays.{inside, inside-no-peer, inside-str
 use Rattle.floodnet.specs.CodeWalks.{striking-row}
 use Rattle.floodnet.proofs.rows.strike_all.Statement.{statement}
 use Rattle.floodnet.proofs.rows.strike_all.Tie as tie
-use Rattle.floodnet.proofs.rows.strike_all.Reads as reads
-use Rattle.floodnet.proofs.rows.strike_all.Lts as lts
-use Rattle.floodnet.proofs.rows.row_strike.Reads as row-strike-reads
-use Rattle.sets.proofs.lowest32.Reads as lowest32-reads
-use Rattle.sets.proofs.rest32.Reads as rest32-reads
 
 abbrev Inv-loop : tie.InvT-loop
 Inv-loop known₀ who topics p left₀ known left = Picking who left (λ t. inside t topics) (strikes (only (p .0))) known₀ known

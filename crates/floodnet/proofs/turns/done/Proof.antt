@@ -3,8 +3,6 @@ use mathlib.Core.Path.{refl}
 use Rattle.floodnet.specs.Step.{turned}
 use Rattle.floodnet.proofs.turns.done.Statement.{statement}
 use Rattle.floodnet.proofs.turns.done.Tie as tie
-use Rattle.floodnet.proofs.turns.done.Reads as reads
-use Rattle.floodnet.proofs.turns.done.Lts as lts
 
 returns : tie.Need-returns
 unfolding turned

@@ -8,13 +8,6 @@ use Rattle.floodnet.specs.CodeForward.{receivers-lift, forwarded-lift}
 use Rattle.floodnet.specs.CodeTurns.{took-refused, took-done}
 use Rattle.floodnet.proofs.turns.forward.Statement.{statement}
 use Rattle.floodnet.proofs.turns.forward.Tie as tie
-use Rattle.floodnet.proofs.turns.forward.Reads as reads
-use Rattle.floodnet.proofs.turns.forward.Lts as lts
-use Rattle.floodnet.proofs.messages.forward.Reads as forward-reads
-use Rattle.floodnet.proofs.refusals.of_forward.Reads as of-forward-reads
-use Rattle.floodnet.proofs.turns.done.Reads as done-reads
-use Rattle.floodnet.proofs.turns.refused.Reads as refused-reads
-use Rattle.sets.proofs.size32.Reads as size32-reads
 
 of-forward-requires : tie.Need-of-forward-requires
 of-forward-requires c κs = search needs
@@ -37,7 +30,7 @@ done-requires c κs = search needs
 
 returns-2 : tie.Need-returns-2
 unfolding refusalForward deliveries
-returns-2 c = 
+returns-2 c =
     took-done _ (c .before .before .before .before .before .before .of-forward .ensures) (c .before .before .before .before .before .if1 .left) (forwarded-lift _ _ _ _ _ _ _ _ _ _ _ _ _ (c .before .before .forward .ensures .1)) (c .done .ensures)
     ((c .before .size32 .ensures .0) ∙ ap size ((c .before .before .forward .ensures .0) ∙ sym (receivers-lift _ _ _ _ _ _ _ _ _ _ _))) (c .before .size32 .ensures .1)
 

@@ -5,12 +5,6 @@ use Rattle.floodnet.specs.Refusals.{refusalJoin}
 use Rattle.floodnet.specs.CodeTurns.{took-refused, took-done}
 use Rattle.floodnet.proofs.turns.join.Statement.{statement}
 use Rattle.floodnet.proofs.turns.join.Tie as tie
-use Rattle.floodnet.proofs.turns.join.Reads as reads
-use Rattle.floodnet.proofs.turns.join.Lts as lts
-use Rattle.floodnet.proofs.links.join.Reads as join-reads
-use Rattle.floodnet.proofs.refusals.of_join.Reads as of-join-reads
-use Rattle.floodnet.proofs.turns.done.Reads as done-reads
-use Rattle.floodnet.proofs.turns.refused.Reads as refused-reads
 
 of-join-requires : tie.Need-of-join-requires
 of-join-requires c κs = search needs

@@ -5,12 +5,6 @@ use Rattle.floodnet.specs.Refusals.{refusalLeave}
 use Rattle.floodnet.specs.CodeTurns.{took-refused, took-done}
 use Rattle.floodnet.proofs.turns.leave.Statement.{statement}
 use Rattle.floodnet.proofs.turns.leave.Tie as tie
-use Rattle.floodnet.proofs.turns.leave.Reads as reads
-use Rattle.floodnet.proofs.turns.leave.Lts as lts
-use Rattle.floodnet.proofs.links.leave.Reads as leave-reads
-use Rattle.floodnet.proofs.refusals.of_leave.Reads as of-leave-reads
-use Rattle.floodnet.proofs.turns.done.Reads as done-reads
-use Rattle.floodnet.proofs.turns.refused.Reads as refused-reads
 
 of-leave-requires : tie.Need-of-leave-requires
 of-leave-requires c κs = search needs

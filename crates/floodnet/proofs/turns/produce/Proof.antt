@@ -5,12 +5,6 @@ use Rattle.floodnet.specs.CodeForward.{produced-lift}
 use Rattle.floodnet.specs.CodeTurns.{took-refused, took-done}
 use Rattle.floodnet.proofs.turns.produce.Statement.{statement}
 use Rattle.floodnet.proofs.turns.produce.Tie as tie
-use Rattle.floodnet.proofs.turns.produce.Reads as reads
-use Rattle.floodnet.proofs.turns.produce.Lts as lts
-use Rattle.floodnet.proofs.messages.produce.Reads as produce-reads
-use Rattle.floodnet.proofs.refusals.of_produce.Reads as of-produce-reads
-use Rattle.floodnet.proofs.turns.done.Reads as done-reads
-use Rattle.floodnet.proofs.turns.refused.Reads as refused-reads
 
 of-produce-requires : tie.Need-of-produce-requires
 of-produce-requires c κs = search needs

@@ -2,8 +2,6 @@
 use Rattle.floodnet.specs.CodeTurns.{turned-refused}
 use Rattle.floodnet.proofs.turns.refused.Statement.{statement}
 use Rattle.floodnet.proofs.turns.refused.Tie as tie
-use Rattle.floodnet.proofs.turns.refused.Reads as reads
-use Rattle.floodnet.proofs.turns.refused.Lts as lts
 
 returns : tie.Need-returns
 returns c = λ kind count. turned-refused _ kind count (c .pre)

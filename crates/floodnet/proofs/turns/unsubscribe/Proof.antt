@@ -6,12 +6,6 @@ use Rattle.floodnet.specs.CodeLinks.{unsubscribed-lift}
 use Rattle.floodnet.specs.CodeTurns.{took-refused, took-done}
 use Rattle.floodnet.proofs.turns.unsubscribe.Statement.{statement}
 use Rattle.floodnet.proofs.turns.unsubscribe.Tie as tie
-use Rattle.floodnet.proofs.turns.unsubscribe.Reads as reads
-use Rattle.floodnet.proofs.turns.unsubscribe.Lts as lts
-use Rattle.floodnet.proofs.links.unsubscribe.Reads as unsubscribe-reads
-use Rattle.floodnet.proofs.refusals.of_topics.Reads as of-topics-reads
-use Rattle.floodnet.proofs.turns.done.Reads as done-reads
-use Rattle.floodnet.proofs.turns.refused.Reads as refused-reads
 
 of-topics-requires : tie.Need-of-topics-requires
 of-topics-requires c κs = search needs

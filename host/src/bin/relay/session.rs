@@ -1,0 +1,202 @@
+//! A network under work: what each command does.
+
+use crate::command::Command;
+use crate::{files, picture, show, words, HELP};
+use relay_host::event::{Event, RECORD};
+use relay_host::{Network, Reason, Refusal, Table, Tally};
+use std::io::{self, Write};
+
+/// Why a command could not be done.
+pub enum Trouble {
+    /// The engine refused.
+    Refused(String),
+    /// The text or a file can't be used.
+    Text(String),
+}
+
+impl Trouble {
+    pub fn message(&self) -> &str {
+        match self {
+            Trouble::Refused(message) | Trouble::Text(message) => message,
+        }
+    }
+
+    /// The status that the tool ends with.
+    pub fn status(&self) -> u8 {
+        match self {
+            Trouble::Refused(_) => 1,
+            Trouble::Text(_) => 2,
+        }
+    }
+
+    /// The same trouble with the script's name and line.
+    pub fn at(self, name: &str, line: usize) -> Trouble {
+        let placed = |message| format!("{name}:{line}: {message}");
+        match self {
+            Trouble::Refused(message) => Trouble::Refused(placed(message)),
+            Trouble::Text(message) => Trouble::Text(placed(message)),
+        }
+    }
+}
+
+/// Trouble with the standard streams. A reader that has gone away is not worth a word.
+impl From<io::Error> for Trouble {
+    fn from(error: io::Error) -> Trouble {
+        match error.kind() {
+            io::ErrorKind::BrokenPipe => Trouble::Text(String::new()),
+            _ => Trouble::Text(format!("relay: {error}")),
+        }
+    }
+}
+
+pub struct Session {
+    network: Network,
+    table: Table,
+    /// The accepted events since the start, as records.
+    records: Vec<u8>,
+    /// Their tally.
+    tally: Tally,
+    /// Was there a drain among them? It is no event.
+    drained: bool,
+    /// Tell each event?
+    aloud: bool,
+}
+
+impl Session {
+    pub fn new(aloud: bool) -> Session {
+        Session {
+            network: Network::blank(),
+            table: Table::zero(),
+            records: Vec::new(),
+            tally: Tally::default(),
+            drained: false,
+            aloud,
+        }
+    }
+
+    /// Does what a command says, and writes what there is to say.
+    pub fn execute(&mut self, command: &Command, out: &mut dyn Write) -> Result<(), Trouble> {
+        match command {
+            Command::Event(event) => self.event(event, out)?,
+            Command::Refused(reason, event) => self.refused(*reason, event, out)?,
+            Command::Table(message, row) => self.table.set(*message, *row),
+            Command::Drain(budget) => self.drain(*budget, out)?,
+            Command::Show(None) => write!(out, "{}", show::network(&self.network))?,
+            Command::Show(Some(message)) => writeln!(out, "{}", words::message(&self.network, &self.table, *message))?,
+            Command::Image(None) => write!(out, "{}", show::image(&self.network.image()))?,
+            Command::Image(Some(file)) => files::write(file, self.network.image().bytes())?,
+            Command::Tally => writeln!(out, "{}", words::tally(&self.tally))?,
+            Command::Picture(file, message) => {
+                files::write(file, picture::svg(&self.network, &self.table, *message).as_bytes())?
+            }
+            Command::Dot(file, message) => {
+                files::write(file, picture::dot(&self.network, &self.table, *message).as_bytes())?
+            }
+            Command::Load(state, table) => self.load(state, table.as_deref())?,
+            Command::Save(state, table) => self.save(state, table.as_deref())?,
+            Command::Run(file) => self.run(file, out)?,
+            Command::Events(file) => self.write_events(file)?,
+            Command::Blank => *self = Session::new(self.aloud),
+            Command::Say(said) => writeln!(out, "{said}")?,
+            Command::Help => write!(out, "{HELP}")?,
+        }
+        Ok(())
+    }
+
+    /// How things stand, in one line.
+    pub fn summary(&self) -> String {
+        words::summary(self.accepted(), self.network.pending_pairs())
+    }
+
+    fn accepted(&self) -> usize {
+        self.records.len() / RECORD
+    }
+
+    fn event(&mut self, event: &Event, out: &mut dyn Write) -> Result<(), Trouble> {
+        match self.network.apply(&self.table, event) {
+            Ok(tally) => {
+                self.records.extend(event.encode());
+                self.tally += tally;
+                if self.aloud {
+                    writeln!(out, "{}", words::accepted(event, &tally))?;
+                }
+                Ok(())
+            }
+            Err(refusal) => Err(Trouble::Refused(self.explain(event, refusal.reason))),
+        }
+    }
+
+    /// A refused event in words. Its place counts from the first event of the session.
+    fn explain(&self, event: &Event, reason: Reason) -> String {
+        let refusal = Refusal { reason, place: self.accepted() };
+        words::refused(&self.network, &self.table, event, &refusal)
+    }
+
+    fn refused(&mut self, reason: Reason, event: &Event, out: &mut dyn Write) -> Result<(), Trouble> {
+        let mut trial = self.network.clone();
+        match trial.apply(&self.table, event) {
+            Err(refusal) if refusal.reason == reason => Ok(writeln!(out, "{}", self.explain(event, reason))?),
+            Err(refusal) => {
+                let said = self.explain(event, refusal.reason);
+                Err(Trouble::Refused(format!("{said}; by {} was expected", reason.number())))
+            }
+            Ok(_) => {
+                Err(Trouble::Refused(format!("{event} is accepted; a refusal by {} was expected", reason.number())))
+            }
+        }
+    }
+
+    fn drain(&mut self, budget: u32, out: &mut dyn Write) -> Result<(), Trouble> {
+        let drained = self.network.drain(&self.table, budget);
+        self.drained |= drained.forwards > 0;
+        writeln!(out, "{}", words::drained(budget, &drained))?;
+        Ok(())
+    }
+
+    /// Takes a state, and a table if one is named, from files. Nothing changes if either is refused.
+    fn load(&mut self, state: &str, table: Option<&str>) -> Result<(), Trouble> {
+        let refused = |file: &str, refusal: Refusal| Trouble::Refused(format!("{file} is refused: {refusal}"));
+        let network = Network::read(&files::read(state)?).map_err(|refusal| refused(state, refusal))?;
+        if let Some(file) = table {
+            self.table = Table::read(&files::read(file)?).map_err(|refusal| refused(file, refusal))?;
+        }
+        let table = self.table.clone();
+        *self = Session { network, table, ..Session::new(self.aloud) };
+        Ok(())
+    }
+
+    fn save(&self, state: &str, table: Option<&str>) -> Result<(), Trouble> {
+        files::write(state, self.network.bytes())?;
+        match table {
+            Some(file) => files::write(file, self.table.bytes()),
+            None => Ok(()),
+        }
+    }
+
+    /// Runs a record file as one list. A refusal's place counts in the file.
+    fn run(&mut self, file: &str, out: &mut dyn Write) -> Result<(), Trouble> {
+        let records = files::read(file)?;
+        let run = self.network.run_records(&self.table, &records);
+        self.records.extend(&records[..run.accepted * RECORD]);
+        self.tally += run.tally;
+        let Some(refusal) = run.refusal else {
+            return Ok(writeln!(out, "{file}: {}", words::events(run.accepted))?);
+        };
+        let said = match records[run.accepted * RECORD..].first_chunk() {
+            Some(record) if refusal.reason.place_of() == Some("event") => match Event::decode(record) {
+                Ok(event) => words::refused(&self.network, &self.table, &event, &refusal),
+                Err(_) => format!("refused: {refusal}; its bytes are {}", words::bytes(record)),
+            },
+            _ => format!("refused: {refusal}"),
+        };
+        Err(Trouble::Refused(format!("{file}: {said}")))
+    }
+
+    fn write_events(&self, file: &str) -> Result<(), Trouble> {
+        if self.drained {
+            let message = "the events can't be written: there was a drain among them, which is no event";
+            return Err(Trouble::Text(message.into()));
+        }
+        files::write(file, &self.records)
+    }
+}

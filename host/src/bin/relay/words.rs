@@ -1,0 +1,123 @@
+//! What the engine answers, in words.
+
+use relay_host::{Drained, Event, Joining, Message, Network, Peer, Reason, Refusal, Set, Table, Tally};
+
+/// A count with its noun.
+fn count(number: u64, noun: &str) -> String {
+    let plural = match (number, noun.strip_suffix('y')) {
+        (1, _) => noun.to_string(),
+        (_, Some(stem)) => format!("{stem}ies"),
+        (_, None) => format!("{noun}s"),
+    };
+    format!("{number} {plural}")
+}
+
+pub fn events(accepted: usize) -> String {
+    format!("{} accepted", count(accepted as u64, "event"))
+}
+
+pub fn pending(pairs: usize) -> String {
+    match pairs {
+        0 => "nothing pending".into(),
+        _ => format!("{} pending", count(pairs as u64, "pair")),
+    }
+}
+
+pub fn summary(accepted: usize, pairs: usize) -> String {
+    format!("done: {}, {}", events(accepted), pending(pairs))
+}
+
+pub fn peers(number: usize) -> String {
+    format!("{} present", count(number as u64, "peer"))
+}
+
+pub fn tally(tally: &Tally) -> String {
+    let forwards = count(tally.forwards, "forward");
+    format!("tally of the events: {} produced, {forwards}, {}", tally.produced, count(tally.deliveries, "delivery"))
+}
+
+pub fn accepted(event: &Event, tally: &Tally) -> String {
+    match event {
+        Event::Forward(..) => format!("{event}: {}", count(tally.deliveries, "delivery")),
+        _ => event.to_string(),
+    }
+}
+
+pub fn drained(budget: u32, drained: &Drained) -> String {
+    let forwards = count(drained.forwards.into(), "forward");
+    let rounds = count(drained.rounds.into(), "round");
+    let end = if drained.quiet { "nothing is pending" } else { "something is still pending" };
+    format!("drain {budget}: {forwards}, {rounds}, {end}")
+}
+
+/// Bytes as pairs of hexadecimal digits.
+pub fn bytes(bytes: &[u8]) -> String {
+    let pairs: Vec<String> = bytes.iter().map(|byte| format!("{byte:02x}")).collect();
+    pairs.join(" ")
+}
+
+/// Who has a message.
+pub fn message(network: &Network, table: &Table, message: Message) -> String {
+    let row = table.row(message);
+    let (holding, seen) = network.holders(message);
+    format!("message {message} (topic {}, origin {}): {}", row.topic, row.origin, having(holding, seen))
+}
+
+fn having(holding: Set<Peer>, seen: Set<Peer>) -> String {
+    match (holding.is_empty(), seen.is_empty()) {
+        (true, true) => "nobody has it".into(),
+        (true, false) => format!("pending nowhere, seen by {seen}"),
+        (false, true) => format!("pending at {holding}, seen by nobody"),
+        (false, false) => format!("pending at {holding}, seen by {seen}"),
+    }
+}
+
+/// A refused event: what, why and where, and what stands in its way.
+pub fn refused(network: &Network, table: &Table, event: &Event, refusal: &Refusal) -> String {
+    let said = format!("{event} is refused: {refusal}");
+    match because(network, table, event, refusal.reason) {
+        Some(detail) => format!("{said}; {detail}"),
+        None => said,
+    }
+}
+
+/// The numbers behind a refusal, for those where they help.
+fn because(network: &Network, table: &Table, event: &Event, reason: Reason) -> Option<String> {
+    let present: Set<Peer> = network.desks().map(|(peer, _)| peer).collect();
+    let desk = |peer: &Peer| network.desk(*peer);
+    Some(match (event, reason) {
+        (_, Reason::PeerAbsent) => format!("present: {present}"),
+        (Event::Produce(_, message), Reason::NotOrigin) => {
+            format!("message {message} has origin {}", table.row(*message).origin)
+        }
+        (Event::Produce(peer, message), Reason::NotPublished) => {
+            let topic = table.row(*message).topic;
+            format!("message {message} has topic {topic}, and peer {peer} publishes {}", desk(peer)?.pubs)
+        }
+        (Event::Produce(_, message), Reason::NotNew) => {
+            let (holding, seen) = network.holders(*message);
+            having(holding, seen)
+        }
+        (Event::Forward(peer, _) | Event::Leave(peer), Reason::NotPending | Reason::StillPending) => {
+            format!("pending at peer {peer}: {}", desk(peer)?.pending)
+        }
+        (Event::Join(_, Joining { neighbours, .. }), Reason::NeighbourAbsent) => {
+            let absent: Set<Peer> = neighbours.members().filter(|&peer| !present.has(peer)).collect();
+            format!("absent: {absent}")
+        }
+        _ => return None,
+    })
+}
+
+#[cfg(test)]
+mod tests {
+    use super::*;
+
+    #[test]
+    fn nouns_follow_their_counts() {
+        assert_eq!(summary(1, 0), "done: 1 event accepted, nothing pending");
+        assert_eq!(summary(2, 1), "done: 2 events accepted, 1 pair pending");
+        let counts = Tally { produced: 1, forwards: 0, deliveries: 2 };
+        assert_eq!(tally(&counts), "tally of the events: 1 produced, 0 forwards, 2 deliveries");
+    }
+}

@@ -1,0 +1,250 @@
+//! Events as lines of text: `join 1 subs 0 neighbours 0`, `produce 0 5`, `subscribe 1 topics 0,2-4`.
+//!
+//! A set is numbers and ranges, with spaces or commas between them; `none` is the empty set.
+
+use crate::event::{Event, Joining};
+use crate::numbers::{Number, Peer, Set, Topic};
+use std::error::Error;
+use std::fmt;
+use std::str::FromStr;
+
+/// Why a line can't be read, for a person.
+#[derive(Clone, Debug, PartialEq, Eq)]
+pub struct TextError(pub String);
+
+impl fmt::Display for TextError {
+    fn fmt(&self, out: &mut fmt::Formatter) -> fmt::Result {
+        out.pad(&self.0)
+    }
+}
+
+impl Error for TextError {}
+
+fn fail<T>(message: String) -> Result<T, TextError> {
+    Err(TextError(message))
+}
+
+/// The events' names and forms.
+pub const FORMS: [(&str, &str); 7] = [
+    ("skip", "skip"),
+    ("produce", "produce PEER MESSAGE"),
+    ("forward", "forward PEER MESSAGE"),
+    ("subscribe", "subscribe PEER topics SET"),
+    ("unsubscribe", "unsubscribe PEER topics SET"),
+    ("leave", "leave PEER"),
+    ("join", "join PEER [subs SET] [pubs SET] [neighbours SET]"),
+];
+
+/// The words of one line that are still to be read.
+pub struct Words<'a> {
+    words: std::iter::Peekable<std::vec::IntoIter<&'a str>>,
+    form: &'static str,
+}
+
+impl<'a> Words<'a> {
+    /// The words of a line without its comment: a word that begins with `#` ends the line.
+    pub fn of_line(line: &'a str) -> Words<'a> {
+        let words: Vec<&str> = line.split_whitespace().take_while(|word| !word.starts_with('#')).collect();
+        Words { words: words.into_iter().peekable(), form: "" }
+    }
+
+    /// What a message may give as the right form from here on.
+    pub fn expect_form(&mut self, form: &'static str) {
+        self.form = form;
+    }
+
+    /// The next word, if there is one.
+    pub fn take(&mut self) -> Option<&'a str> {
+        self.words.next()
+    }
+
+    /// The next word, which must be there.
+    pub fn need(&mut self, what: &str) -> Result<&'a str, TextError> {
+        match self.words.next() {
+            Some(word) => Ok(word),
+            None => fail(format!("{what} is missing: {}", self.form)),
+        }
+    }
+
+    /// The next word, if it is this keyword.
+    pub fn keyword(&mut self, keyword: &str) -> bool {
+        self.words.next_if_eq(&keyword).is_some()
+    }
+
+    /// A number of a sort.
+    pub fn number<N: Number>(&mut self) -> Result<N, TextError> {
+        let word = self.need(&format!("the {}", N::NOUN))?;
+        number(word)
+    }
+
+    /// A set: all words up to one of the keywords or the end.
+    pub fn set<N: Number>(&mut self, keywords: &[&str]) -> Result<Set<N>, TextError> {
+        let mut set = Set::empty();
+        while let Some(word) = self.words.next_if(|word| !keywords.contains(word)) {
+            if word == "none" {
+                continue;
+            }
+            if word.starts_with(char::is_alphabetic) {
+                return fail(format!("`{word}` is not expected here: {}", self.form));
+            }
+            for part in word.split(',').filter(|part| !part.is_empty()) {
+                add_part(&mut set, part)?;
+            }
+        }
+        Ok(set)
+    }
+
+    /// Nothing may follow.
+    pub fn end(&mut self) -> Result<(), TextError> {
+        match self.words.next() {
+            None => Ok(()),
+            Some(word) => fail(format!("`{word}` is too much: {}", self.form)),
+        }
+    }
+
+    /// An event whose name has been taken; none if it is no event's name.
+    pub fn event(&mut self, name: &str) -> Result<Option<Event>, TextError> {
+        let Some((_, form)) = FORMS.iter().find(|(event, _)| *event == name) else {
+            return Ok(None);
+        };
+        self.form = form;
+        let event = match name {
+            "skip" => Event::Skip,
+            "produce" => Event::Produce(self.number()?, self.number()?),
+            "forward" => Event::Forward(self.number()?, self.number()?),
+            "subscribe" => Event::Subscribe(self.number()?, self.topics()?),
+            "unsubscribe" => Event::Unsubscribe(self.number()?, self.topics()?),
+            "leave" => Event::Leave(self.number()?),
+            _ => Event::Join(self.number()?, self.joining()?),
+        };
+        self.end()?;
+        Ok(Some(event))
+    }
+
+    fn topics(&mut self) -> Result<Set<Topic>, TextError> {
+        if !self.keyword("topics") {
+            return fail(format!("`topics` is missing: {}", self.form));
+        }
+        self.set(&[])
+    }
+
+    /// The three sets of a join, in any order, each at most once.
+    fn joining(&mut self) -> Result<Joining, TextError> {
+        const KEYWORDS: [&str; 3] = ["subs", "pubs", "neighbours"];
+        let (mut subs, mut pubs, mut neighbours) = (None, None, None);
+        while let Some(word) = self.take() {
+            let twice = match word {
+                "subs" => subs.replace(self.set(&KEYWORDS)?).is_some(),
+                "pubs" => pubs.replace(self.set(&KEYWORDS)?).is_some(),
+                "neighbours" => neighbours.replace(self.set(&KEYWORDS)?).is_some(),
+                _ => return fail(format!("`{word}` is not expected here: {}", self.form)),
+            };
+            if twice {
+                return fail(format!("`{word}` is given twice"));
+            }
+        }
+        Ok(Joining {
+            subs: subs.unwrap_or(Set::empty()),
+            pubs: pubs.unwrap_or(Set::empty()),
+            neighbours: neighbours.unwrap_or(Set::<Peer>::empty()),
+        })
+    }
+}
+
+fn number<N: Number>(word: &str) -> Result<N, TextError> {
+    let range = format!("{}s are 0 to {}", N::NOUN, N::BELOW - 1);
+    if word.is_empty() || !word.bytes().all(|byte| byte.is_ascii_digit()) {
+        return fail(format!("`{word}` is no {} number: {range}", N::NOUN));
+    }
+    match word.parse().ok().and_then(N::new) {
+        Some(number) => Ok(number),
+        None => fail(format!("there is no {} {word}: {range}", N::NOUN)),
+    }
+}
+
+/// Adds a number or a range to a set.
+fn add_part<N: Number>(set: &mut Set<N>, part: &str) -> Result<(), TextError> {
+    let (first, last): (N, N) = match part.split_once('-') {
+        Some((first, last)) if !first.is_empty() && !last.is_empty() => (number(first)?, number(last)?),
+        _ => (number(part)?, number(part)?),
+    };
+    if first.get() > last.get() {
+        return fail(format!("the range {part} runs backwards"));
+    }
+    for member in first.get()..=last.get() {
+        set.insert(N::new(member).expect("between two numbers in range"));
+    }
+    Ok(())
+}
+
+impl FromStr for Event {
+    type Err = TextError;
+
+    fn from_str(line: &str) -> Result<Event, TextError> {
+        let mut words = Words::of_line(line);
+        words.expect_form("an event");
+        let name = words.need("the event")?;
+        match words.event(name)? {
+            Some(event) => Ok(event),
+            None => fail(format!("`{name}` is no event")),
+        }
+    }
+}
+
+#[cfg(test)]
+mod tests {
+    use super::*;
+
+    fn event(line: &str) -> Event {
+        line.parse().unwrap_or_else(|error| panic!("{line}: {error}"))
+    }
+
+    fn message(line: &str) -> String {
+        line.parse::<Event>().unwrap_err().to_string()
+    }
+
+    #[test]
+    fn lines_come_back_as_they_were() {
+        for line in [
+            "skip",
+            "produce 0 5",
+            "forward 31 63",
+            "subscribe 1 topics 0,2-4",
+            "unsubscribe 1 topics none",
+            "leave 7",
+            "join 3",
+            "join 1 subs 0 neighbours 0",
+            "join 2 subs 0-31 pubs 1,2 neighbours 0,31",
+        ] {
+            assert_eq!(event(line).to_string(), line);
+        }
+    }
+
+    #[test]
+    fn one_event_may_be_written_in_several_ways() {
+        let join = event("join 1 subs 0,2-4 pubs 7 neighbours 0 2");
+        assert_eq!(event("  join 1 neighbours 0,2 pubs 7 subs 0 2 3 4   # a desk"), join);
+        assert_eq!(event("join 1 subs 0, 2-4 pubs 7 neighbours 2 0 0"), join);
+        assert_eq!(event("join 1 subs none"), event("join 1"));
+        assert_eq!(event("subscribe 1 topics"), event("subscribe 1 topics none"));
+    }
+
+    #[test]
+    fn bad_lines_are_explained() {
+        assert_eq!(message("produce 0"), "the message is missing: produce PEER MESSAGE");
+        assert_eq!(message("produce 32 5"), "there is no peer 32: peers are 0 to 31");
+        assert_eq!(message("produce 0 64"), "there is no message 64: messages are 0 to 63");
+        assert_eq!(message("produce 0 5 6"), "`6` is too much: produce PEER MESSAGE");
+        assert_eq!(message("leave x"), "`x` is no peer number: peers are 0 to 31");
+        assert_eq!(message("leave +1"), "`+1` is no peer number: peers are 0 to 31");
+        assert_eq!(message("leave 99999999999999999999"), "there is no peer 99999999999999999999: peers are 0 to 31");
+        assert_eq!(message("subscribe 1 0"), "`topics` is missing: subscribe PEER topics SET");
+        assert_eq!(message("subscribe 1 topics 5-2"), "the range 5-2 runs backwards");
+        assert_eq!(message("join 1 subs 0 subs 1"), "`subs` is given twice");
+        assert_eq!(message("join 1 sub 0"), format!("`sub` is not expected here: {}", FORMS[6].1));
+        assert_eq!(message("join 1 subs 0 nieghbours 0"), format!("`nieghbours` is not expected here: {}", FORMS[6].1));
+        assert_eq!(message("join 1 subs -5"), "`-5` is no topic number: topics are 0 to 31");
+        assert_eq!(message("jump 1"), "`jump` is no event");
+        assert_eq!(message("# nothing"), "the event is missing: an event");
+    }
+}

@@ -1,0 +1,104 @@
+#!/usr/bin/env bash
+# Builds the host over the engine's static library and tries all of it: the Rust crate's tests, the C example, the
+# examples with their stored output, and the tool's files. Ends with status 0 only if nothing differs.
+#
+#     bash host/test.sh
+#
+# Needs cargo, a C compiler and the library, which `rt staticlib engine` makes if it isn't there. RELAY_ENGINE_DIR
+# names another folder than target/staticlib.
+set -u
+cd "$(dirname "$0")/.." || exit 2
+export RELAY_ENGINE_DIR=${RELAY_ENGINE_DIR:-$PWD/target/staticlib}
+library=$RELAY_ENGINE_DIR/libengine.a
+[ -f "$library" ] || rt staticlib engine || exit 2
+room=$(mktemp -d) || exit 2
+trap 'rm -rf "$room"' EXIT
+tried=0 wrong=0
+
+# Counts a check and says how it went.
+verdict() { # STATUS WHAT
+    tried=$((tried + 1))
+    if [ "$1" -eq 0 ]; then
+        echo "host: ok: $2"
+    else
+        wrong=$((wrong + 1))
+        echo "host: WRONG: $2"
+    fi
+}
+
+# Runs a command; what it writes and its status must be as said.
+gives() { # STATUS FILE COMMAND...
+    local status=$1 file=$2 ended
+    shift 2
+    "$@" >"$room/wrote" 2>&1
+    ended=$?
+    diff -u "$file" "$room/wrote" && { [ "$ended" -eq "$status" ] || { echo "status $ended, not $status"; false; }; }
+    verdict $? "$*"
+}
+
+# Two files must be equal.
+same() { # FILE FILE WHAT
+    cmp "$1" "$2"
+    verdict $? "$3"
+}
+
+cargo build --offline --locked --release --quiet --manifest-path host/Cargo.toml || exit 1
+cargo test --offline --locked --release --quiet --manifest-path host/Cargo.toml >"$room/tests" 2>&1
+verdict $? "cargo test"
+[ "$wrong" -eq 0 ] || cat "$room/tests"
+relay=${CARGO_TARGET_DIR:-$PWD/host/target}/release/relay
+
+sh host/link-c.sh "$library" "$room/example" host/example.c || exit 1
+gives 0 host/example.out "$room/example"
+
+gives 0 examples/first.out "$relay" examples/first.relay
+gives 0 examples/handover.out "$relay" examples/handover.relay
+gives 0 examples/cases.out "$relay" examples/cases.relay
+gives 1 examples/refused.out "$relay" examples/refused.relay
+gives 1 examples/accident.out "$relay" examples/accident.relay
+gives 2 examples/bad.out "$relay" examples/bad.relay
+gives 0 host/src/bin/relay/help.txt "$relay" --help
+
+# Text to records and back, and a state through files.
+examples=$PWD/examples docs=$PWD/docs
+cd "$room" || exit 2
+cat >lines <<'LINES'
+join 0 pubs 0
+join 1 subs 0,2-4 neighbours 0
+subscribe 0 topics 31
+unsubscribe 0 topics none
+produce 0 5
+skip
+forward 0 5
+LINES
+"$relay" encode lines records
+gives 0 lines "$relay" decode records
+[ "$(wc -c <records)" -eq 112 ]
+verdict $? "an event is 16 bytes"
+{ cat lines; echo "events again"; echo "save state table"; echo "image image"; } | "$relay" >text.out
+same records again "events writes what encode writes"
+printf 'run records\nsave state.run table.run\nload state table\nsave state.load table.load\n' | "$relay" >run.out
+same state state.run "records run as the lines do"
+same state state.load "load and save keep a state"
+same table table.load "load and save keep a table"
+printf 'load image\nsave image.load\n' | "$relay" >image.out
+same image image.load "an image is a state without links"
+printf 'run records\nrun records\n' | "$relay" >twice.out 2>&1
+grep -q '^standard input:2: records: join 0 pubs 0 is refused: joining peer already present (9, event 0)$' twice.out
+verdict $? "a refused record is named"
+head -c 100 records >cut
+printf 'run cut\n' | "$relay" 2>&1 | grep -q "cut: refused: event bytes aren't a multiple of 16 (3)$"
+verdict $? "a cut record file is refused"
+"$relay" decode cut 2>&1 | grep -q "^cut: event bytes aren't a multiple of 16 (3)$"
+verdict $? "decode refuses a cut file"
+{ cat "$examples/handover.relay"; printf 'picture five.svg message 5\ndot five.dot message 5\n'; } | "$relay" >pictures.out
+[ "$(grep -c '<circle' five.svg)" -eq 3 ] && [ "$(grep -c '<line' five.svg)" -eq 2 ] && [ "$(grep -c ' -- ' five.dot)" -eq 2 ]
+verdict $? "pictures have every peer and link"
+{ grep -B 99 '^forward' "$examples/first.relay"; echo 'picture first.svg message 5'; } | "$relay" >first.out
+same "$docs/first.svg" first.svg "the picture of docs/HOST.md"
+
+if [ "$wrong" -ne 0 ]; then
+    echo "host: $wrong of $tried checks went wrong"
+    exit 1
+fi
+echo "host: all $tried checks are right"

@@ -18,7 +18,7 @@ use Rattle.flooding.specs.Counts.{pendingPairs}
 use Rattle.flooding.specs.Machine.{due, drain, rounds}
 use Rattle.flooding.specs.Page.{Floods}
 use Rattle.flooding.specs.Loop.{due-length}
-use Rattle.flooding.proofs.Floods.{floods}
+use Rattle.flooding.proofs.Floods.{floods, run-ok}
 use Rattle.flooding.proofs.Drain.{due-none, due-some, drain-fuel}
 use Rattle.network.specs.declared.Network.{Network}
 use Rattle.network.specs.declared.Table.{Table}
@@ -29,7 +29,7 @@ use Rattle.floodnet.specs.View.{view, fwd}
 use Rattle.floodnet.specs.ViewLaws.{network-machine}
 use Rattle.drain.specs.Drain.{drainOf, quietOf}
 use Rattle.drain.specs.Reach.{Quiet}
-use Rattle.drain.specs.ReachLaws.{still, quiet}
+use Rattle.drain.specs.ReachLaws.{still, quiet, drains, reach}
 use Rattle.drain.specs.Pairs.{listOf, waitingOf, todo-list}
 
 -- Every word is empty exactly if nothing is pending.
@@ -81,3 +81,12 @@ module _ {b : Table} {n : Network} (s : Sound n) (rows : Rows b) where
   pub drain-enough : (k budget : ℕ) → 32 ≤ k → drain (view b) (fwd b) 32 64 k budget n ≡ drainOf b budget n
   unfolding drainOf
   drain-enough k budget l = drain-fuel (view b) (fwd b) 32 64 Sound (network-machine rows) k 32 budget n s (late k l) (late 32 (omega arith))
+
+  -- A drain ends in a sound network; with enough budget, in one whose words are all empty.
+  pub end-sound : (budget : ℕ) → Sound (drainOf b budget n .end)
+  end-sound budget =
+      let x = drains s rows budget in
+      rw (x .ends) (run-ok (view b) (fwd b) 32 64 Sound (network-machine rows) n (x .path) s (x .accepted))
+
+  pub end-quiet : (budget : ℕ) → 2048 ≤ budget → quietOf (drainOf b budget n .end) ≡ true
+  end-quiet budget h = quiet-words (end-sound budget .shaped) .1 (reach s rows .drain-quiet budget h)

@@ -15,7 +15,7 @@ use Rattle.flooding.specs.Loop.{drain-stop, drain-round, drain-cut}
 use Rattle.drain.specs.Pairs.{pairsOf, listOf}
 
 -- The first n of two lists: as many of the first as there are, and of the second what n leaves.
-pub take-both : (n : ℕ) (l r : List Pair) → take n (l ++ r) ≡ take n l ++ take (n - length (take n l)) r
+take-both : (n : ℕ) (l r : List Pair) → take n (l ++ r) ≡ take n l ++ take (n - length (take n l)) r
 take-both zero l r = refl
 take-both (suc n) [] r = rw (sub-zero (suc n))
 take-both (suc n) (x ∷ l) r =

@@ -1,30 +1,32 @@
 -- The places at which the loops of src/arrays.rt change a list, and their turns. Assumes nothing.
 use mathlib.Core.Path.{_≡_, refl, sym, ap, _∙_}
-use mathlib.Core.Bool.{Bool, true, false, not, _&&_, _||_}
+use mathlib.Core.Bool.{Bool, true, false, _&&_, _||_}
 use mathlib.Core.List.{List}
-use Prim.Native.Nat.{ℕ, _+_, _*_, _/_, _%_, _^_, _<_}
+use Prim.Native.Nat.{ℕ, _+_, _*_, _/_, _%_, _<_}
 use native.Mathlib.Omega.{arith}
-use lib.Dec.{eqb, ltb}
-use lib.ListN.{length, getD, set}
-use borrow.Author.Tests.{eqb-true, lt-ltb, le-ltb}
-use Rattle.sets.specs.Set.{has, union, minus, only, withIf, lowest}
-use Rattle.sets.specs.Bools.{bool2, eqb-same, ne-eqb}
+use lib.Dec.{eqb}
+use lib.ListN.{getD, set}
+use borrow.Author.Tests.{eqb-true}
+use Rattle.sets.specs.Set.{has, union, minus, only, lowest}
+use Rattle.sets.specs.Bools.{bool2, eqb-same}
 use Rattle.sets.specs.Members.{has-union, has-none, has-only, has-with, has-with-other}
 use Rattle.lists.specs.Edit.{edit}
 use Rattle.network.specs.declared.Peer.{Peer}
 use Rattle.floodnet.specs.Topics.{noted, struck}
-use Rattle.floodnet.specs.CodeWhen.{picks, picks-with, picks-without, puts, strikes, blanks, puts-twice, strikes-twice, Next, Picking, picking-store, picking-edit}
+use Rattle.floodnet.specs.CodeWhen.{picks, picks-with, picks-without, puts, strikes, Next, Picking, picking-store}
 
 -- peer q has m pending or seen
 unfoldable pub holding : List ℕ → List ℕ → ℕ → ℕ → Bool
 holding pending seen m q = has (getD pending q 0) m || has (getD seen q 0) m
 
+-- what `has64` says of the two words together
 pub holding-is : (pending seen : List ℕ) (m q w : ℕ) {b : Bool} → w ≡ union (getD pending q 0) (getD seen q 0) → b ≡ has w m → holding pending seen m q ≡ b
 unfolding holding
 holding-is pending seen m q w {b} e h = sym (h ∙ ap (λ (x : ℕ). has x m) e ∙ has-union (getD pending q 0) (getD seen q 0) m)
 
 -- ---- `mark`, `give`, `unmark`: the places of a set
 
+-- one member more, one place more
 next-has : (t q : ℕ) → has t q ≡ false → Next (has t) (has (union t (only q))) q
 next-has t q new = record {
   others = λ i d. has-with-other t q i (λ (e : q ≡ i). d (sym e));
@@ -32,11 +34,13 @@ next-has t q new = record {
   on = has-with t q;
 }
 
+-- a turn of `give` and `mark`: p is put in at q
 pub marking : {s left left′ q v : ℕ} {l₀ l : List ℕ} (p : ℕ) → Picking s left has (puts p) l₀ l → 0 < left → q ≡ lowest 32 left → left′ ≡ minus left (only (lowest 32 left))
     → v ≡ union (getD l q 0) (only p) → Picking s left′ has (puts p) l₀ (set l q v)
 unfolding puts
 marking {q = q} p a b eq el ev = picking-store has (puts p) q a b eq el ev (λ t new c. next-has t q new)
 
+-- a turn of `unmark`: p is struck out at q
 pub unmarking : {s left left′ q v : ℕ} {l₀ l : List ℕ} (p : ℕ) → Picking s left has (strikes (only p)) l₀ l → 0 < left → q ≡ lowest 32 left → left′ ≡ minus left (only (lowest 32 left))
     → v ≡ minus (getD l q 0) (only p) → Picking s left′ has (strikes (only p)) l₀ (set l q v)
 unfolding strikes
@@ -48,10 +52,12 @@ unmarking {q = q} p a b eq el ev = picking-store has (strikes (only p)) q a b eq
 unfoldable pub inside : ℕ → ℕ → ℕ → Bool
 inside s t i = has s (i / 32) && has t (i % 32)
 
+-- no topic, no word
 pub inside-no-topic : (s i : ℕ) → inside s 0 i ≡ false
 unfolding inside
 inside-no-topic s i = ap (λ (b : Bool). has s (i / 32) && b) (has-none (i % 32)) ∙ bool2 (λ (x y : Bool). x && false ≡ false) refl refl refl refl (has s (i / 32)) false
 
+-- no peer, no word
 pub inside-no-peer : (t i : ℕ) → inside 0 t i ≡ false
 unfolding inside
 inside-no-peer t i = ap (λ (b : Bool). b && has t (i % 32)) (has-none (i / 32))
@@ -77,11 +83,13 @@ next-inside r t q new small = record {
         ap (λ (b : Bool). has (only r) (i / 32) && b) (has-with-other t q (i % 32) (λ (y : q ≡ i % 32). d (omega arith)))
     go i d false e = rw (has-only r (i / 32), e) refl
 
+-- a turn of `row_note`: p is put in for the topic q
 pub noting : {s left left′ q v : ℕ} {l₀ l : List ℕ} (r p : ℕ) → Picking s left (inside (only r)) (puts p) l₀ l → 0 < left → q ≡ lowest 32 left
     → left′ ≡ minus left (only (lowest 32 left)) → v ≡ union (getD l (r * 32 + q) 0) (only p) → Picking s left′ (inside (only r)) (puts p) l₀ (set l (r * 32 + q) v)
 unfolding puts
 noting {q = q} r p a b eq el ev = picking-store (inside (only r)) (puts p) (r * 32 + q) a b eq el ev (λ t. next-inside r t q)
 
+-- a turn of `row_strike`: p is struck out for the topic q
 pub striking : {s left left′ q v : ℕ} {l₀ l : List ℕ} (r p : ℕ) → Picking s left (inside (only r)) (strikes (only p)) l₀ l → 0 < left → q ≡ lowest 32 left
     → left′ ≡ minus left (only (lowest 32 left)) → v ≡ minus (getD l (r * 32 + q) 0) (only p) → Picking s left′ (inside (only r)) (strikes (only p)) l₀ (set l (r * 32 + q) v)
 unfolding strikes
@@ -92,6 +100,7 @@ pub inside-noted : (s topics : ℕ) (p : Peer) (l : List ℕ) → edit (picks (i
 unfolding inside noted
 inside-noted s topics p l = picks-with (inside s topics) (p .0) l
 
+-- the same, struck out
 pub inside-struck : (s topics : ℕ) (p : Peer) (l : List ℕ) → edit (picks (inside s topics) (strikes (only (p .0)))) l ≡ struck s topics p l
 unfolding inside struck
 inside-struck s topics p l = picks-without (inside s topics) (p .0) l

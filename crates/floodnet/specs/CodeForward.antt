@@ -1,6 +1,6 @@
 -- An effect looks at some parts of a network only, so the code that makes it takes those alone. A contract speaks of a network
 -- that has these parts and nothing else; the laws here lift such an equation to any network with the same parts. Assumes nothing.
-use mathlib.Core.Path.{_≡_, refl, sym, ap, ap₂, _∙_}
+use mathlib.Core.Path.{_≡_, refl, ap, ap₂, _∙_}
 use mathlib.Core.List.{List, []}
 use Prim.Native.Nat.{ℕ, _+_, _*_}
 use lib.ListN.{getD, set}
@@ -10,7 +10,7 @@ use Rattle.network.specs.declared.Peer.{Peer}
 use Rattle.network.specs.declared.Message.{Message}
 use Rattle.network.specs.declared.Network.{Network}
 use Rattle.network.specs.declared.Table.{Table}
-use Rattle.network.specs.Network.{mk, topicOf}
+use Rattle.network.specs.Network.{mk}
 use Rattle.floodnet.specs.Produce.{holders, produced}
 use Rattle.floodnet.specs.Forward.{moved, receivers, given, forwarded}
 use Rattle.floodnet.specs.CodeArrays.{holding}
@@ -28,6 +28,7 @@ pub produced-law : (e : List ℕ) (p : Peer) (m : Message) (v : ℕ) → v ≡ u
 unfolding produced
 produced-law e p m v h = ap (λ (x : ℕ). ofMessages (set e (p .0) x) [] []) h
 
+-- the same of any network with these parts
 pub produced-lift : (a : ℕ) (b c d e f g e′ : List ℕ) (p : Peer) (m : Message) → ofMessages e′ [] [] ≡ produced (ofMessages e [] []) p m
     → mk a b c d e′ f g ≡ produced (mk a b c d e f g) p m
 unfolding produced
@@ -35,15 +36,18 @@ produced-lift a b c d e f g e′ p m h = ap (λ (n : Network). mk a b c d (n .pe
 
 -- `forward`: v and w are the words of p once m has moved, and r is what is left of those that p knows
 module _ (e f g ts : List ℕ) (p : Peer) (m : Message) where
+  -- those that p knows for m's topic
   near : ℕ
   near = getD g (p .0 * 32 + getD ts (m .0) 0) 0
 
+  -- r is the set of receivers
   pub receivers-law : (v w held r : ℕ) → v ≡ minus (getD e (p .0) 0) (only (m .0)) → w ≡ union (getD f (p .0) 0) (only (m .0))
       → held ≡ sift 32 (getD g (p .0 * 32 + getD ts (m .0) 0) 0) (holding (set e (p .0) v) (set f (p .0) w) (m .0)) → r ≡ minus (getD g (p .0 * 32 + getD ts (m .0) 0) 0) held
       → r ≡ receivers (ofMessages e f g) (table ts []) p m
   unfolding receivers holders moved holding near
   receivers-law v w held r hv hw hh hr = hr ∙ ap (minus near) (hh ∙ ap₂ (λ (x y : ℕ). sift 32 near (holding (set e (p .0) x) (set f (p .0) y) (m .0))) hv hw)
 
+  -- what pending and seen become
   pub forwarded-law : (v w r : ℕ) (e′ : List ℕ) → v ≡ minus (getD e (p .0) 0) (only (m .0)) → w ≡ union (getD f (p .0) 0) (only (m .0))
       → r ≡ receivers (ofMessages e f g) (table ts []) p m → e′ ≡ edit (λ q x. withIf (has r q) (m .0) x) (set e (p .0) v)
       → ofMessages e′ (set f (p .0) w) g ≡ forwarded (ofMessages e f g) (table ts []) p m
@@ -58,6 +62,7 @@ pub receivers-lift : (a : ℕ) (b c d e f g ts os : List ℕ) (p : Peer) (m : Me
 unfolding receivers holders moved
 receivers-lift a b c d e f g ts os p m = refl
 
+-- the network after `forward`, of any network with these parts
 pub forwarded-lift : (a : ℕ) (b c d e f g e′ f′ ts os : List ℕ) (p : Peer) (m : Message) → ofMessages e′ f′ g ≡ forwarded (ofMessages e f g) (table ts []) p m
     → mk a b c d e′ f′ g ≡ forwarded (mk a b c d e f g) (table ts os) p m
 unfolding forwarded given moved receivers holders

@@ -1,18 +1,14 @@
--- How the code comes to a refusal, test by test; and a refusal looks at some parts of a network only. Assumes nothing.
-use mathlib.Core.Path.{_≡_, refl, sym, ap, _∙_}
+-- How the code comes to a refusal, test by test. Assumes nothing.
+use mathlib.Core.Path.{_≡_, sym, ap, _∙_}
 use mathlib.Core.Bool.{Bool, true, false, not}
-use mathlib.Core.List.{List, []}
 use Prim.Native.Nat.{ℕ}
 use lib.Dec.{eqb}
 use borrow.Author.Tests.{not-true, not-false, eq-eqb, ne-eqb}
 use Rattle.sets.specs.Set.{sift}
-use Rattle.network.specs.declared.Peer.{Peer}
 use Rattle.network.specs.declared.Message.{Message}
 use Rattle.network.specs.declared.Network.{Network}
-use Rattle.network.specs.declared.Table.{Table}
-use Rattle.network.specs.Network.{mk}
-use Rattle.floodnet.specs.Produce.{holders, isNew}
-use Rattle.floodnet.specs.Refusals.{need, refusalProduce, refusalForward, refusalTopics, refusalLeave, refusalJoin}
+use Rattle.floodnet.specs.Produce.{holders}
+use Rattle.floodnet.specs.Refusals.{need}
 use Rattle.floodnet.specs.CodeArrays.{holding}
 
 -- a condition that fails, and one that holds
@@ -20,6 +16,7 @@ pub need-fails : (b : Bool) (k r : ℕ) → b ≡ false → k ≡ need b k r
 unfolding need
 need-fails b k r e = ap (λ (x : Bool). need x k r) (sym e)
 
+-- a condition that holds
 pub need-holds : (b : Bool) (k r : ℕ) {x : ℕ} → b ≡ true → x ≡ r → x ≡ need b k r
 unfolding need
 need-holds b k r e h = h ∙ ap (λ (x : Bool). need x k r) (sym e)
@@ -28,6 +25,7 @@ need-holds b k r e h = h ∙ ap (λ (x : Bool). need x k r) (sym e)
 pub test-fails : {r t : Bool} → r ≡ t → not r ≡ true → t ≡ false
 test-fails {r} h e = sym h ∙ not-true r e
 
+-- the test `!r` is false: t is true
 pub test-holds : {r t : Bool} → r ≡ t → not r ≡ false → t ≡ true
 test-holds {r} h e = sym h ∙ not-false r e
 
@@ -35,6 +33,7 @@ test-holds {r} h e = sym h ∙ not-false r e
 pub test-bars : {r t : Bool} → r ≡ t → r ≡ true → not t ≡ false
 test-bars h e = ap not (sym h ∙ e)
 
+-- the test `r` is false: t is false
 pub test-frees : {r t : Bool} → r ≡ t → r ≡ false → not t ≡ true
 test-frees h e = ap not (sym h ∙ e)
 
@@ -42,6 +41,7 @@ test-frees h e = ap not (sym h ∙ e)
 pub some-fails : {w x : ℕ} → w ≡ x → (w ≡ 0 → ⊥) → eqb x 0 ≡ false
 some-fails {w} {x} h e = ne-eqb x 0 (λ (z : x ≡ 0). e (h ∙ z))
 
+-- the test `w != 0` is false: x is nothing
 pub none-holds : {w x : ℕ} → w ≡ x → w ≡ 0 → eqb x 0 ≡ true
 none-holds {w} {x} h e = eq-eqb x 0 (sym h ∙ e)
 

@@ -1,14 +1,14 @@
 -- One row of `known`, word by word, and the rows of the members of a set, row by row. Assumes nothing.
-use mathlib.Core.Path.{_≡_, refl, sym, ap, _∙_}
-use mathlib.Core.Bool.{Bool, true, false, not, _&&_, _||_}
+use mathlib.Core.Path.{_≡_, refl, ap, _∙_}
+use mathlib.Core.Bool.{Bool, true, false, not, _&&_}
 use mathlib.Core.List.{List}
-use Prim.Native.Nat.{ℕ, _+_, _*_, _/_, _%_, _^_, _<_}
+use Prim.Native.Nat.{ℕ, _+_, _*_, _/_, _%_, _<_}
 use native.Mathlib.Omega.{arith}
 use lib.Dec.{eqb, ltb}
-use lib.ListN.{length, getD, set}
+use lib.ListN.{getD, set}
 use borrow.Author.Tests.{eqb-true, lt-ltb, le-ltb, ltb-true}
-use Rattle.sets.specs.Set.{has, union, minus, only, lowest}
-use Rattle.sets.specs.Bools.{bool2, eqb-same, ne-eqb, bool-ext}
+use Rattle.sets.specs.Set.{minus}
+use Rattle.sets.specs.Bools.{bool2, eqb-same, bool-ext}
 use Rattle.lists.specs.Edit.{edit, edit-none}
 use Rattle.floodnet.specs.Links.{minusIf, keepIf}
 use Rattle.floodnet.specs.CodeWhen.{strikes, blanks, picks, picks-none, picks-same, picks-store, picks-minus, picks-keep, Next}
@@ -17,6 +17,7 @@ use Rattle.floodnet.specs.CodeWhen.{strikes, blanks, picks, picks-none, 
 unfoldable pub front : ℕ → ℕ → ℕ → Bool
 front r n i = eqb (i / 32) r && ltb (i % 32) n
 
+-- one word more
 front-next : (r n : ℕ) → n < 32 → Next (front r n) (front r (n + 1)) (r * 32 + n)
 unfolding front
 front-next r n small = record {
@@ -40,10 +41,12 @@ front-next r n small = record {
         ap (λ (b : Bool). eqb (i / 32) r && b) (same i (λ (y : i % 32 ≡ n). d (omega arith)))
     go i d false e = rw e refl
 
+-- no word yet
 front-none : (r i : ℕ) → front r 0 i ≡ false
 unfolding front
 front-none r i = ap (λ (b : Bool). eqb (i / 32) r && b) (le-ltb (i % 32) 0 (omega arith)) ∙ bool2 (λ (x y : Bool). x && false ≡ false) refl refl refl refl (eqb (i / 32) r) false
 
+-- all 32 words are the row
 front-all : (r i : ℕ) → front r 32 i ≡ eqb (i / 32) r
 unfolding front
 front-all r i = ap (λ (b : Bool). eqb (i / 32) r && b) (lt-ltb (i % 32) 32 (omega arith)) ∙ bool2 (λ (x y : Bool). x && true ≡ x) refl refl refl refl (eqb (i / 32) r) false
@@ -52,12 +55,14 @@ front-all r i = ap (λ (b : Bool). eqb (i / 32) r && b) (lt-ltb (i % 32) 32 (ome
 pub row-none : (r : ℕ) (h : ℕ → ℕ) (l : List ℕ) → l ≡ edit (picks (front r 0) h) l
 row-none r h l = edit-none (picks (front r 0) h) l (λ i. picks-none (front r 0) h i (getD l i 0) (front-none r i))
 
+-- one word more is stored to
 row-more : (r n : ℕ) (h : ℕ → ℕ) (l₀ : List ℕ) {v : ℕ} {l : List ℕ} → n < 32 → l ≡ edit (picks (front r n) h) l₀ → v ≡ h (getD l (r * 32 + n) 0)
     → set l (r * 32 + n) v ≡ edit (picks (front r (n + 1)) h) l₀
 row-more r n h l₀ {v} {l} b e ev =
     ap (set l (r * 32 + n)) ev ∙ ap (λ (x : List ℕ). set x (r * 32 + n) (h (getD x (r * 32 + n) 0))) e
     ∙ picks-store (front r n) (front r (n + 1)) h l₀ (r * 32 + n) (front-next r n b)
 
+-- the whole row
 row-all : (r : ℕ) (h : ℕ → ℕ) (l : List ℕ) → edit (picks (front r 32) h) l ≡ edit (picks (λ i. eqb (i / 32) r) h) l
 row-all r h l = picks-same (front r 32) (λ i. eqb (i / 32) r) h l (front-all r)
 
@@ -67,6 +72,7 @@ pub row-minus-more : (r n s : ℕ) (l₀ : List ℕ) {v : ℕ} {l : List ℕ} �
 unfolding strikes
 row-minus-more r n s = row-more r n (strikes s)
 
+-- the whole row without s
 pub row-minus-all : (r n s : ℕ) (l₀ : List ℕ) {l : List ℕ} → l ≡ edit (picks (front r n) (strikes s)) l₀ → n ≡ 32 → l ≡ edit (λ i w. minusIf (eqb (i / 32) r) s w) l₀
 row-minus-all r n s l₀ e z = e ∙ ap (λ (x : ℕ). edit (picks (front r x) (strikes s)) l₀) z ∙ row-all r (strikes s) l₀ ∙ picks-minus (λ i. eqb (i / 32) r) s l₀
 
@@ -75,5 +81,6 @@ pub row-clear-more : (r n : ℕ) (l₀ : List ℕ) {l : List ℕ} → n < 32 →
 unfolding blanks
 row-clear-more r n l₀ b e = row-more r n blanks l₀ b e refl
 
+-- the whole row blank
 pub row-clear-all : (r n : ℕ) (l₀ : List ℕ) {l : List ℕ} → l ≡ edit (picks (front r n) blanks) l₀ → n ≡ 32 → l ≡ edit (λ i w. keepIf (not (eqb (i / 32) r)) w) l₀
 row-clear-all r n l₀ e z = e ∙ ap (λ (x : ℕ). edit (picks (front r x) blanks) l₀) z ∙ row-all r blanks l₀ ∙ picks-keep (λ i. eqb (i / 32) r) l₀

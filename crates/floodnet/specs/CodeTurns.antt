@@ -4,7 +4,6 @@ use mathlib.Core.Path.{_≡_, refl, sym, ap, ap₂, _∙_, subst}
 use mathlib.Core.List.{List, []}
 use Prim.Native.Nat.{ℕ, zero, suc, _≤_, _<_}
 use native.Mathlib.Omega.{arith}
-use Rattle.sets.specs.Set.{size}
 use Rattle.network.specs.declared.Peer.{Peer}
 use Rattle.network.specs.declared.Message.{Message}
 use Rattle.network.specs.declared.Network.{Network}
@@ -21,7 +20,7 @@ use Rattle.floodnet.specs.Topics.{subscribedTo, unsubscribedFrom}
 use Rattle.floodnet.specs.Links.{left, joined}
 use Rattle.floodnet.specs.Refusals.{refusalProduce, refusalForward, refusalTopics, refusalLeave, refusalJoin}
 use Rattle.floodnet.specs.Step.{refusal, effect, ifAccepted, after, kindOf, deliveriesOf, turned, turnedOf}
-use Rattle.floodnet.specs.CodeForward.{table, ofMessages}
+use Rattle.floodnet.specs.CodeForward.{table}
 
 -- n became n′ and r was answered: the event was refused by `refuse n`, or, if that is 0, took effect and counts for `count n`
 pub record Took (refuse : Network → ℕ) (kind : ℕ) (count : Network → ℕ) (effect : Network → Network) (n n′ : Network) (r : Turned) : Type 0 where
@@ -35,6 +34,7 @@ unfolding turned
 turned-refused zero kind d h = absurd (omega arith)
 turned-refused (suc k) kind d h = refl
 
+-- a refused event changes nothing
 pub took-refused : {refuse : Network → ℕ} {kind : ℕ} {count : Network → ℕ} {effect : Network → Network} {n : Network} {r : Turned} (k : ℕ) → k ≡ refuse n → (k ≡ 0 → ⊥)
     → ((kind d : ℕ) → r ≡ turned k kind d) → Took refuse kind count effect n n r
 unfolding ifAccepted turned
@@ -52,6 +52,7 @@ took-refused {refuse} {kind} {count} {effect} {n} {r} k e z a = record {
     none zero = omega arith
     none (suc k) = omega arith
 
+-- an accepted event took effect
 pub took-done : {refuse : Network → ℕ} {kind d : ℕ} {count : Network → ℕ} {effect : Network → Network} {n n′ : Network} {r : Turned} (k : ℕ) → k ≡ refuse n → k ≡ 0
     → n′ ≡ effect n → r ≡ turned 0 kind d → d ≡ count n → d ≤ 32 → Took refuse kind count effect n n′ r
 unfolding ifAccepted turned
@@ -68,10 +69,12 @@ abbrev pub Stepped : Network → Network → Table → Event → Turned → Type
 Stepped n n′ b e r = (n′ ≡ after n b e) × ((r ≡ turnedOf n b e) × (r .deliveries ≤ 32))
 
 module _ (a : ℕ) (b c d e f g ts os : List ℕ) where
+  -- skip
   pub step-skip : (r : Turned) → r ≡ turned 0 0 0 → Stepped (mk a b c d e f g) (mk a b c d e f g) (table ts os) Skip r
   unfolding after turnedOf turned refusal kindOf deliveriesOf ifAccepted effect
   step-skip r h = (refl, (h, rw h (omega arith)))
 
+  -- produce
   pub step-produce : (e′ : List ℕ) (p : Peer) (m : Message) (r : Turned)
       → Took (λ n. refusalProduce n (table ts os) p m) 1 (λ n. 0) (λ n. produced n p m) (mk a b [] [] e f []) (mk a b [] [] e′ f []) r
       → Stepped (mk a b c d e f g) (mk a b c d e′ f g) (table ts os) (Produce p m) r
@@ -83,6 +86,7 @@ module _ (a : ℕ) (b c d e f g ts os : List ℕ) where
       go zero h = ap (λ (n : Network). mk a b c d (n .pending) f g) h
       go (suc k) h = ap (λ (n : Network). mk a b c d (n .pending) f g) h
 
+  -- forward
   pub step-forward : (e′ f′ : List ℕ) (p : Peer) (m : Message) (r : Turned)
       → Took (λ n. refusalForward n p m) 2 (λ n. deliveries n (table ts []) p m) (λ n. forwarded n (table ts []) p m) (mk a [] [] [] e f g) (mk a [] [] [] e′ f′ g) r
       → Stepped (mk a b c d e f g) (mk a b c d e′ f′ g) (table ts os) (Forward p m) r
@@ -94,6 +98,7 @@ module _ (a : ℕ) (b c d e f g ts os : List ℕ) where
       go zero h = ap (λ (n : Network). mk a b c d (n .pending) (n .seen) g) h
       go (suc k) h = ap (λ (n : Network). mk a b c d (n .pending) (n .seen) g) h
 
+  -- subscribe
   pub step-subscribe : (c′ g′ : List ℕ) (p : Peer) (topics : ℕ) (r : Turned)
       → Took (λ n. refusalTopics n p) 0 (λ n. 0) (λ n. subscribedTo n p topics) (mk a [] c d [] [] g) (mk a [] c′ d [] [] g′) r
       → Stepped (mk a b c d e f g) (mk a b c′ d e f g′) (table ts os) (Subscribe p topics) r
@@ -105,6 +110,7 @@ module _ (a : ℕ) (b c d e f g ts os : List ℕ) where
       go zero h = ap (λ (n : Network). mk a b (n .subs) d e f (n .known)) h
       go (suc k) h = ap (λ (n : Network). mk a b (n .subs) d e f (n .known)) h
 
+  -- unsubscribe
   pub step-unsubscribe : (c′ g′ : List ℕ) (p : Peer) (topics : ℕ) (r : Turned)
       → Took (λ n. refusalTopics n p) 0 (λ n. 0) (λ n. unsubscribedFrom n p topics) (mk a [] c d [] [] g) (mk a [] c′ d [] [] g′) r
       → Stepped (mk a b c d e f g) (mk a b c′ d e f g′) (table ts os) (Unsubscribe p topics) r
@@ -121,6 +127,7 @@ pub step-leave : (n n′ : Network) (b : Table) (p : Peer) (r : Turned) → Took
 unfolding after turnedOf refusal effect kindOf deliveriesOf
 step-leave n n′ b p r t = (t .state, (t .answer, t .few))
 
+-- join
 pub step-join : (n n′ : Network) (b : Table) (p : Peer) (j : Joining) (r : Turned)
     → Took (λ n. refusalJoin n p (j .neighbours)) 0 (λ n. 0) (λ n. joined n p (j .subs) (j .pubs) (j .neighbours)) n n′ r → Stepped n n′ b (Join p j) r
 unfolding after turnedOf refusal effect kindOf deliveriesOf
@@ -128,8 +135,10 @@ step-join n n′ b p j r t = (t .state, (t .answer, t .few))
 
 -- ---- the event is of the kind that was matched
 
+-- it fits
 pub fits-as : {e e₀ : Event} → e ≡ e₀ → EventFits e → EventFits e₀
 fits-as {e} {e₀} h x = subst EventFits h x
 
+-- its step
 pub stepped-as : (n n′ : Network) (b : Table) {e e₀ : Event} {r : Turned} → e ≡ e₀ → Stepped n n′ b e₀ r → Stepped n n′ b e r
 stepped-as n n′ b {e} {e₀} {r} h x = subst (λ (y : Event). Stepped n n′ b y r) (sym h) x

@@ -1,7 +1,7 @@
 -- A loop that visits the members of s, the least first, and edits a list on the way: once the members t are visited, the
 -- list is edit (f t) of what it was. Assumes nothing.
-use mathlib.Core.Path.{_≡_, refl, sym, ap, _∙_, subst}
-use mathlib.Core.Bool.{true, false}
+use mathlib.Core.Path.{_≡_, sym, ap, _∙_}
+use mathlib.Core.Bool.{true}
 use mathlib.Core.List.{List}
 use Prim.Native.Nat.{ℕ, _^_, _<_}
 use native.Mathlib.Omega.{arith}
@@ -11,7 +11,7 @@ use lib.Seq.{getD-set-same, getD-set-other}
 use Rattle.sets.specs.Set.{has, union, minus, only, Subset, lowest}
 use Rattle.sets.specs.Bounds.{minus-lt}
 use Rattle.sets.specs.Lowest.{lowest-has}
-use Rattle.sets.specs.Visits.{minus-self, minus-none, subset-self, subset-step, visit-step, visit-new}
+use Rattle.sets.specs.Visits.{minus-self, minus-none, subset-self, subset-step, visit-step}
 use Rattle.lists.specs.Edit.{edit, length-edit, getD-edit, is-edit, edit-none, edit-same, edit-edit}
 
 -- one store, of h of what stands at k: g is f at every other place, and h of what f gives at k
@@ -40,6 +40,7 @@ pub record Along (s left : ℕ) (f : ℕ → ℕ → ℕ → ℕ) (l₀ l : List
   pub within : Subset left s
   pub made : l ≡ edit (f (minus s left)) l₀
 
+-- before the first turn
 pub along-none : (s : ℕ) (f : ℕ → ℕ → ℕ → ℕ) (l : List ℕ) → s < 2 ^ 32 → ((i x : ℕ) → f 0 i x ≡ x) → Along s s f l l
 along-none s f l b h = record {
   below = b;
@@ -62,6 +63,7 @@ along-more {s} {left} {left′} {q} {f} {l₀} {l} {l′} a p eq el e = record {
     gone : left′ ≡ minus left (only q)
     gone = el ∙ ap (λ (x : ℕ). minus left (only x)) (sym eq)
 
+-- after the last turn
 pub along-done : {s left : ℕ} {f : ℕ → ℕ → ℕ → ℕ} {l₀ l : List ℕ} → Along s left f l₀ l → left ≡ 0 → l ≡ edit (f s) l₀
 along-done {s} {left} {f} {l₀} {l} a e = a .made ∙ ap (λ (v : ℕ). edit (f v) l₀) (ap (minus s) e ∙ minus-none s)
 

@@ -1,9 +1,8 @@
 -- The loops of src/rows.rt over the rows of the members of a set. Assumes nothing.
 use mathlib.Core.Path.{_≡_, refl, sym, ap, _∙_}
-use mathlib.Core.Bool.{Bool, true, false, not, _&&_, _||_}
+use mathlib.Core.Bool.{Bool, true, false, _&&_, _||_}
 use mathlib.Core.List.{List}
-use Prim.Native.Nat.{ℕ, _+_, _*_, _/_, _%_, _^_, _<_}
-use native.Mathlib.Omega.{arith}
+use Prim.Native.Nat.{ℕ, _/_, _%_, _<_}
 use lib.Dec.{eqb}
 use lib.ListN.{getD}
 use borrow.Author.Tests.{eqb-true, eq-eqb}
@@ -12,15 +11,16 @@ use Rattle.sets.specs.Bools.{bool2, bool-ext}
 use Rattle.sets.specs.Members.{members, has-union, has-none, has-only, ext}
 use Rattle.sets.specs.Build.{has-withIf}
 use Rattle.sets.specs.Lowest.{lowest-has, lowest-lt}
-use Rattle.sets.specs.Visits.{minus-self, minus-none, setOf-none, visit-step, sift-step}
+use Rattle.sets.specs.Visits.{setOf-none, visit-step, sift-step}
 use Rattle.lists.specs.Edit.{edit}
 use Rattle.network.specs.declared.Peer.{Peer}
 use Rattle.floodnet.specs.Topics.{noted, struck, withoutIf}
 use Rattle.floodnet.specs.Links.{unionIf, minusIf}
 use Rattle.floodnet.specs.CodeVisit.{Along, along-more, edit-then}
-use Rattle.floodnet.specs.CodeWhen.{picks, picks-with, picks-without, picks-minus, puts, strikes, puts-twice, strikes-twice, Picking, picking-edit}
+use Rattle.floodnet.specs.CodeWhen.{picks, picks-without, picks-minus, puts, strikes, puts-twice, strikes-twice, Picking, picking-edit}
 use Rattle.floodnet.specs.CodeArrays.{inside, inside-noted, inside-struck}
 
+-- the test of equality is symmetric
 eqb-swap : (a b : ℕ) → eqb a b ≡ eqb b a
 eqb-swap a b = bool-ext (λ e. eq-eqb b a (sym (eqb-true a b e))) (λ e. eq-eqb a b (sym (eqb-true b a e)))
 
@@ -54,10 +54,12 @@ striking-row {q = q} {l = l} topics p a b eq el e =
 unfoldable pub rows : ℕ → ℕ → Bool
 rows s i = has s (i / 32)
 
+-- no peer, no row
 pub rows-none : (i : ℕ) → rows 0 i ≡ false
 unfolding rows
 rows-none i = has-none (i / 32)
 
+-- the row of one peer more
 rows-more : (q t i : ℕ) → rows (union t (only q)) i ≡ rows t i || eqb (i / 32) q
 unfolding rows
 rows-more q t i = has-union t (only q) (i / 32) ∙ ap (λ (b : Bool). has t (i / 32) || b) (has-only q (i / 32) ∙ eqb-swap q (i / 32))
@@ -81,6 +83,7 @@ rows-dropped s p own l e = ap (λ (x : ℕ). edit (picks (rows s) (strikes x)) l
 unfoldable pub learnt : ℕ → List ℕ → ℕ → ℕ → ℕ → ℕ
 learnt p subs s i w = unionIf (eqb (i / 32) p) (sift 32 s (λ q. has (getD subs q 0) (i % 32))) w
 
+-- of nobody, nothing is learnt
 pub learnt-none : (p : ℕ) (subs : List ℕ) (i x : ℕ) → learnt p subs 0 i x ≡ x
 unfolding learnt unionIf sift
 learnt-none p subs i x = go (eqb (i / 32) p)

@@ -40,6 +40,7 @@ pub puts-twice : (p x : ℕ) → puts p (puts p x) ≡ puts p x
 unfolding puts
 puts-twice p x = ext (union (union x (only p)) (only p)) (union x (only p)) (λ i. simp members (bool2 (λ (a b : Bool). (a || b) || b ≡ a || b) refl refl refl refl (has x i) (eqb p i)))
 
+-- striking out twice is striking out once
 pub strikes-twice : (s x : ℕ) → strikes s (strikes s x) ≡ strikes s x
 unfolding strikes
 strikes-twice s x = ext (minus (minus x s) s) (minus x s) (λ i. simp members (bool2 (λ (a b : Bool). (a && not b) && not b ≡ a && not b) refl refl refl refl (has x i) (has s i)))
@@ -53,6 +54,7 @@ picks-with b p l = edit-alike (picks b (puts p)) (λ i w. withIf (b i) p w) l (�
     go true x = refl
     go false x = refl
 
+-- p struck out
 pub picks-without : (b : ℕ → Bool) (p : ℕ) (l : List ℕ) → edit (picks b (strikes (only p))) l ≡ edit (λ i w. withoutIf (b i) p w) l
 unfolding picks when strikes withoutIf
 picks-without b p l = edit-alike (picks b (strikes (only p))) (λ i w. withoutIf (b i) p w) l (λ i x. go (b i) x)
@@ -61,6 +63,7 @@ picks-without b p l = edit-alike (picks b (strikes (only p))) (λ i w. withoutIf
     go true x = refl
     go false x = refl
 
+-- the members of s struck out
 pub picks-minus : (b : ℕ → Bool) (s : ℕ) (l : List ℕ) → edit (picks b (strikes s)) l ≡ edit (λ i w. minusIf (b i) s w) l
 unfolding picks when strikes minusIf
 picks-minus b s l = edit-alike (picks b (strikes s)) (λ i w. minusIf (b i) s w) l (λ i x. go (b i) x)
@@ -69,6 +72,7 @@ picks-minus b s l = edit-alike (picks b (strikes s)) (λ i w. minusIf (b i) s w)
     go true x = refl
     go false x = refl
 
+-- all struck out
 pub picks-keep : (b : ℕ → Bool) (l : List ℕ) → edit (picks b blanks) l ≡ edit (λ i w. keepIf (not (b i)) w) l
 unfolding picks when blanks keepIf
 picks-keep b l = edit-alike (picks b blanks) (λ i w. keepIf (not (b i)) w) l (λ i x. go (b i) x)
@@ -115,6 +119,7 @@ picks-more b d e h l twice both = edit-then (picks b h) (picks d h) (picks e h) 
 abbrev pub Picking : ℕ → ℕ → (ℕ → ℕ → Bool) → (ℕ → ℕ) → List ℕ → List ℕ → Type 0
 Picking s left b h l₀ l = Along s left (λ t. picks (b t) h) l₀ l
 
+-- before the first turn
 pub picking-none : (s : ℕ) (b : ℕ → ℕ → Bool) (h : ℕ → ℕ) (l : List ℕ) → s < 2 ^ 32 → ((i : ℕ) → b 0 i ≡ false) → Picking s s b h l l
 picking-none s b h l c e = along-none s (λ t. picks (b t) h) l c (λ i x. picks-none (b 0) h i x (e i))
 

@@ -11,3 +11,7 @@ pub mod StartLaws
 pub mod AloneLaws
 pub mod TurnLaws
 pub mod Looping
+pub mod StartFacts
+pub mod ForwardAlone
+pub mod Imaging
+pub mod ImagingLaws

@@ -1,6 +1,7 @@
 // The engine: the entry points that a host calls (document 01, "Numbers returned").
 mod alone; // alone.rt: reading, writing and the single forward
 mod counts; // counts.rt: the update of the tally
+mod imaging; // imaging.rt: the image of a state, written to a second buffer
 mod running; // running.rt: a run over a list of events
 mod start; // start.rt: the refusals 1 to 5
 

@@ -15,3 +15,4 @@ pub mod StartFacts
 pub mod ForwardAlone
 pub mod Imaging
 pub mod ImagingLaws
+pub mod ForwardRun

@@ -1,13 +1,13 @@
 -- Laws of the single forward: each way that it ends, and that it is the run of one event. Assumes nothing.
 use mathlib.Core.Path.{_≡_, refl, sym, ap, _∙_}
-use mathlib.Core.Bool.{Bool, true, false, cond, _&&_, and-false}
+use mathlib.Core.Bool.{true, false}
 use mathlib.Core.List.{List}
 use Prim.Native.Nat.{ℕ, zero, suc, _≤_, _<_}
 use native.Mathlib.Omega.{arith}
-use lib.Dec.{eqb, ltb}
+use lib.Dec.{ltb}
 use lib.ListN.{length}
 use borrow.Author.Tests.{lt-ltb, le-ltb}
-use Rattle.sets.specs.Bools.{ne-eqb, and-both}
+use Rattle.sets.specs.Bools.{ne-eqb}
 use Rattle.network.specs.declared.Network.{Network}
 use Rattle.network.specs.declared.Table.{Table}
 use Rattle.network.specs.Network.{peer, message, Rows}
@@ -18,12 +18,12 @@ use Rattle.events.specs.Fits.{EventFits}
 use Rattle.floodnet.specs.declared.Turned.{Turned}
 use Rattle.floodnet.specs.Refusals.{refusalForward}
 use Rattle.floodnet.specs.Forward.{forwarded, deliveries}
-use Rattle.floodnet.specs.Step.{refusal, effect, ifAccepted, after, kindOf, deliveriesOf, turned, turnedOf}
+use Rattle.floodnet.specs.Step.{refusal, effect, ifAccepted, after, deliveriesOf, turned, turnedOf}
 use Rattle.engine.specs.declared.Begun.{Begun}
 use Rattle.engine.specs.declared.Forwarded.{Forwarded}
 use Rattle.engine.specs.Start.{beginOf}
 use Rattle.engine.specs.StartFacts.{begin-rows, begin-long}
-use Rattle.engine.specs.Alone.{Forwards, noForward, forwardOf}
+use Rattle.engine.specs.Alone.{Forwards, forwardOf}
 
 -- an answer by its parts
 abbrev pub forwardedBy : ℕ → ℕ → ℕ → Forwarded

@@ -6,8 +6,7 @@ use mathlib.Core.List.{List}
 use Prim.Native.Nat.{ℕ, _+_, _<_}
 use native.Mathlib.Omega.{arith}
 use lib.Dec.{eqb, ltb}
-use lib.ListN.{length}
-use borrow.Author.Tests.{eq-eqb, eqb-true, ltb-true, lt-ltb}
+use borrow.Author.Tests.{eq-eqb, eqb-true, ltb-true}
 use Rattle.sets.specs.Bools.{clash, and-yes}
 use Rattle.network.specs.declared.Network.{Network}
 use Rattle.network.specs.declared.Table.{Table}
@@ -23,7 +22,7 @@ use Rattle.floodnet.specs.Step.{refusal, effect, ifAccepted, after, kindOf, del
 use Rattle.engine.specs.declared.Tally.{Tally}
 use Rattle.engine.specs.declared.Begun.{Begun}
 use Rattle.engine.specs.Start.{beginOf}
-use Rattle.engine.specs.Run.{zeroTally, tally, talliedOf, turnOf, Final, allDone, runFrom, runAll, written, untouched, Ending, runOf}
+use Rattle.engine.specs.Run.{zeroTally, talliedOf, turnOf, Final, allDone, runFrom, runAll, written, Ending, runOf}
 use Rattle.engine.specs.Alone.{Forwards, noForward, forwardOf}
 use Rattle.engine.specs.ForwardAlone.{forwardEvent, forward-fits}
 
@@ -98,6 +97,7 @@ forward-is-run s t p m old h =
     let a = forward-passed s t p m h in
     let fits : EventFits (forwardEvent p m) = forward-fits p m (omega (arith, a .small-peer)) (omega (arith, a .small-message)) in
     let one = run-one (beginOf s t 0 .table) (beginOf s t 0 .network) (forwardEvent p m) fits (a .right) in
-    let w : runOf s t (recordOf (forwardEvent p m)) old ≡ written (runAll (recordOf (forwardEvent p m)) (beginOf s t 0 .table) (beginOf s t 0 .network)) = one-runs s t (forwardEvent p m) old (a .begun) in
-    (a .state ∙ sym (ap (λ (x : Ending). x .state) w ∙ ap (λ (x : Final). bytesOf (x .network)) one),
-    a .counts ∙ from-zero _ ∙ sym (ap (λ (x : Ending). x .tally .deliveries) w ∙ ap (λ (x : Final). x .tally .deliveries) one))
+    let w : runOf s t (recordOf (forwardEvent p m)) old ≡ written (runAll (recordOf (forwardEvent p m)) (beginOf s t 0 .table) (beginOf s t 0 .network)) = one-runs s t (forwardEvent p m) old (a .begun) in (
+      a .state ∙ sym (ap (λ (x : Ending). x .state) w ∙ ap (λ (x : Final). bytesOf (x .network)) one),
+      a .counts ∙ from-zero _ ∙ sym (ap (λ (x : Ending). x .tally .deliveries) w ∙ ap (λ (x : Final). x .tally .deliveries) one),
+    )

@@ -1,17 +1,14 @@
 -- Laws of the image as an entry point: each way that it ends. Assumes nothing.
-use mathlib.Core.Path.{_≡_, refl, sym, ap, _∙_}
-use mathlib.Core.Bool.{Bool, true, false, cond}
+use mathlib.Core.Path.{_≡_}
 use mathlib.Core.List.{List}
 use Prim.Native.Nat.{ℕ}
-use lib.Dec.{eqb}
 use lib.ListN.{length}
 use Rattle.sets.specs.Bools.{ne-eqb}
 use Rattle.network.specs.declared.Network.{Network}
 use Rattle.network.specs.declared.Opened.{Opened}
 use Rattle.network.specs.State.{openOf, bytesOf}
 use Rattle.broadcastnet.specs.Commit.{imageNet}
-use Rattle.engine.specs.declared.Checked.{Checked}
-use Rattle.engine.specs.Alone.{checked, checkOf}
+use Rattle.engine.specs.Alone.{checked}
 use Rattle.engine.specs.AloneLaws.{check-is}
 use Rattle.engine.specs.Imaging.{imageAnswerOf, imagedOf}
 

@@ -5,10 +5,9 @@ ghost use Rattle.events.specs.Fits.{EventFits};
 ghost use Rattle.floodnet.specs.Step.{after, turnedOf};
 ghost use Rattle.engine.specs.Alone.{checkOf, copyOf, copiedOf, forwardOf};
 ghost use Rattle.engine.specs.ForwardAlone.{forwardedBy};
-
-use crate::start;
 use crate::Checked;
 use crate::Forwarded;
+use crate::start;
 use events::Event;
 use floodnet::Turned;
 use network::Message;
@@ -127,7 +126,11 @@ pub extern "C" fn relay_forward(state: &mut [u8], table: &[u8], peer: u8, messag
     if message > 63 {
         return refused(7, 0);
     }
-    let s = step(begun.network, begun.table, Event::Forward(Peer(peer), Message(message)));
+    let s = step(
+        begun.network,
+        begun.table,
+        Event::Forward(Peer(peer), Message(message)),
+    );
     if s.turned.number != 0 {
         return refused(s.turned.number, 0);
     }

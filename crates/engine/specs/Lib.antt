@@ -15,3 +15,8 @@ pub mod RunEnds
 pub mod Draining
 pub mod DrainingLaws
 pub mod DrainingReach
+pub mod StartFacts
+pub mod ForwardAlone
+pub mod Imaging
+pub mod ImagingLaws
+pub mod ForwardRun

@@ -1,0 +1,113 @@
+-- Laws of the single forward: each way that it ends, and that it is the run of one event. Assumes nothing.
+use mathlib.Core.Path.{_≡_, refl, sym, ap, _∙_}
+use mathlib.Core.Bool.{true, false}
+use mathlib.Core.List.{List}
+use Prim.Native.Nat.{ℕ, zero, suc, _≤_, _<_}
+use native.Mathlib.Omega.{arith}
+use lib.Dec.{ltb}
+use lib.ListN.{length}
+use borrow.Author.Tests.{lt-ltb, le-ltb}
+use Rattle.sets.specs.Bools.{ne-eqb}
+use Rattle.network.specs.declared.Network.{Network}
+use Rattle.network.specs.declared.Table.{Table}
+use Rattle.network.specs.Network.{peer, message, Rows}
+use Rattle.network.specs.State.{bytesOf}
+use Rattle.events.specs.declared.Event.{Event}
+use Rattle.events.specs.declared.Event.the-variants.{Forward}
+use Rattle.events.specs.Fits.{EventFits}
+use Rattle.floodnet.specs.declared.Turned.{Turned}
+use Rattle.floodnet.specs.Refusals.{refusalForward}
+use Rattle.floodnet.specs.Forward.{forwarded, deliveries}
+use Rattle.floodnet.specs.Step.{refusal, effect, ifAccepted, after, deliveriesOf, turned, turnedOf}
+use Rattle.engine.specs.declared.Begun.{Begun}
+use Rattle.engine.specs.declared.Forwarded.{Forwarded}
+use Rattle.engine.specs.Start.{beginOf}
+use Rattle.engine.specs.StartFacts.{begin-rows, begin-long}
+use Rattle.engine.specs.Alone.{Forwards, forwardOf}
+
+-- an answer by its parts
+abbrev pub forwardedBy : ℕ → ℕ → ℕ → Forwarded
+forwardedBy number place d = record { number = number; place = place; deliveries = d }
+
+-- the event
+abbrev pub forwardEvent : ℕ → ℕ → Event
+forwardEvent p m = Forward (peer p) (message m)
+
+-- what the function answers and leaves
+abbrev pub Gives : Forwarded → List ℕ → Forwards → Type 0
+Gives r s f = (r ≡ f .answer) × (s ≡ f .state)
+
+-- ---- the event, as floodnet answers it
+
+-- the number is that of the forward's conditions
+turned-number : (k kind d : ℕ) → turned k kind d .number ≡ k
+unfolding turned
+turned-number zero kind d = refl
+turned-number (suc k) kind d = refl
+
+pub forward-number : (n : Network) (b : Table) (p m : ℕ) → turnedOf n b (forwardEvent p m) .number ≡ refusalForward n (peer p) (message m)
+unfolding turnedOf refusal
+forward-number n b p m = turned-number _ _ _
+
+-- an accepted forward: its deliveries and its network
+pub forward-deliveries : (n : Network) (b : Table) (p m : ℕ) → refusalForward n (peer p) (message m) ≡ 0
+    → turnedOf n b (forwardEvent p m) .deliveries ≡ deliveries n b (peer p) (message m)
+unfolding turnedOf turned refusal deliveriesOf
+forward-deliveries n b p m z = rw z
+
+pub forward-after : (n : Network) (b : Table) (p m : ℕ) → refusalForward n (peer p) (message m) ≡ 0 → after n b (forwardEvent p m) ≡ forwarded n b (peer p) (message m)
+unfolding after ifAccepted refusal effect
+forward-after n b p m z = rw z
+
+-- a forward of a peer and a message in range fits
+pub forward-fits : (p m : ℕ) → p ≤ 31 → m ≤ 63 → EventFits (forwardEvent p m)
+unfolding EventFits
+forward-fits p m l j = (omega arith, omega arith)
+
+-- ---- each way that it ends
+
+module _ (s t : List ℕ) (p m : ℕ) {g : Begun} (e : g ≡ beginOf s t 0) where
+  -- what was read: the table's rows, and the state's length
+  pub forward-rows : Rows (g .table)
+  forward-rows = rw e (begin-rows s t 0)
+
+  pub forward-long : g .number ≡ 0 → length s ≡ 5120
+  forward-long z = begin-long s t 0 (sym (ap (λ (x : Begun). x .number) e) ∙ z)
+
+  -- refused by 1, 2, 4 or 5
+  pub forward-begun : {r : Forwarded} → r ≡ forwardedBy (g .number) (g .place) 0 → (g .number ≡ 0 → ⊥) → Gives r s (forwardOf s t p m)
+  unfolding forwardOf
+  forward-begun k h = (k ∙ rw (← e, ne-eqb h), rw (← e, ne-eqb h))
+
+  -- refused by 7: no such peer; no such message
+  pub forward-peer : {r : Forwarded} → r ≡ forwardedBy 7 0 0 → g .number ≡ 0 → 31 < p → Gives r s (forwardOf s t p m)
+  unfolding forwardOf
+  forward-peer k z h = let w : ltb p 32 ≡ false = le-ltb p 32 (omega arith) in (k ∙ rw (← e, z, w), rw (← e, z, w))
+
+  pub forward-message : {r : Forwarded} → r ≡ forwardedBy 7 0 0 → g .number ≡ 0 → p ≤ 31 → 63 < m → Gives r s (forwardOf s t p m)
+  unfolding forwardOf
+  forward-message k z l h =
+      let v : ltb p 32 ≡ true = lt-ltb p 32 (omega arith) in
+      let w : ltb m 64 ≡ false = le-ltb m 64 (omega arith) in
+      (k ∙ rw (← e, z, v, w), rw (← e, z, v, w))
+
+  -- refused by 8 or 13
+  pub forward-refused : {r : Forwarded} {x : Turned} → r ≡ forwardedBy (x .number) 0 0 → g .number ≡ 0 → p ≤ 31 → m ≤ 63
+      → x ≡ turnedOf (g .network) (g .table) (forwardEvent p m) → (x .number ≡ 0 → ⊥) → Gives r s (forwardOf s t p m)
+  unfolding forwardOf
+  forward-refused {r} {x} k z l j q h =
+      let v : ltb p 32 ≡ true = lt-ltb p 32 (omega arith) in
+      let w : ltb m 64 ≡ true = lt-ltb m 64 (omega arith) in
+      let y : x .number ≡ refusalForward (g .network) (peer p) (message m) = ap (λ (u : Turned). u .number) q ∙ forward-number (g .network) (g .table) p m in
+      (k ∙ rw (← e, z, v, w, ← y, ne-eqb h), rw (← e, z, v, w, ← y, ne-eqb h))
+
+  -- accepted
+  pub forward-done : {x : Turned} {n : Network} {to : List ℕ} → g .number ≡ 0 → p ≤ 31 → m ≤ 63 → x ≡ turnedOf (g .network) (g .table) (forwardEvent p m)
+      → n ≡ after (g .network) (g .table) (forwardEvent p m) → x .number ≡ 0 → to ≡ bytesOf n → Gives (forwardedBy 0 0 (x .deliveries)) to (forwardOf s t p m)
+  unfolding forwardOf
+  forward-done {x} {n} {to} z l j q a h b =
+      let v : ltb p 32 ≡ true = lt-ltb p 32 (omega arith) in
+      let w : ltb m 64 ≡ true = lt-ltb m 64 (omega arith) in
+      let y : refusalForward (g .network) (peer p) (message m) ≡ 0 = sym (forward-number (g .network) (g .table) p m) ∙ (sym (ap (λ (u : Turned). u .number) q) ∙ h) in
+      let d : x .deliveries ≡ deliveries (g .network) (g .table) (peer p) (message m) = ap (λ (u : Turned). u .deliveries) q ∙ forward-deliveries (g .network) (g .table) p m y in
+      (rw (← e, z, v, w, y, d), rw (← e, z, v, w, y) (b ∙ ap bytesOf (a ∙ forward-after (g .network) (g .table) p m y)))

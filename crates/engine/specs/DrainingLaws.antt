@@ -14,13 +14,12 @@ use Rattle.network.specs.Network.{mk, Rows}
 use Rattle.network.specs.Sound.{Sound}
 use Rattle.network.specs.State.{openOf, bytesOf}
 use Rattle.network.specs.Rows.{listOf}
-use Rattle.network.specs.OpenedSound.{opened-sound, blank-sound}
-use Rattle.network.specs.Listing.{listed-rows, blank-rows}
 use Rattle.drain.specs.declared.Drains.{Drains}
 use Rattle.drain.specs.Lent.{DrainsTo}
 use Rattle.engine.specs.declared.Begun.{Begun}
 use Rattle.engine.specs.declared.Drained.{Drained}
 use Rattle.engine.specs.Start.{refusedAt, beginOf}
+use Rattle.engine.specs.StartFacts.{begin-rows, begin-long, begin-sound}
 use Rattle.engine.specs.Draining.{drained, refusedDrain, drainEndOf}
 
 -- ---- what it begins with
@@ -46,15 +45,11 @@ module _ (s t : List ℕ) where
 
   -- the rows of the table are in range
   pub begun-rows : Rows (beginOf s t 0 .table)
-  begun-rows = begun-either (λ (g : Begun). Rows (g .table)) (λ k p l o. blank-rows) (λ e. listed-rows t)
+  begun-rows = begin-rows s t 0
 
   -- the network is sound
   pub begun-sound : Bytes s → Sound (beginOf s t 0 .network)
-  begun-sound h = begun-either (λ (g : Begun). Sound (g .network)) (λ k p l o. blank-sound) (λ e. opened-sound s h)
-
-  -- an accepted state has 5,120 bytes
-  long : beginOf s t 0 .number ≡ 0 → length s ≡ 5120
-  long = begun-either (λ (g : Begun). g .number ≡ 0 → length s ≡ 5120) (λ k p l o z. absurd (omega (arith, l, z))) (λ e z. e)
+  begun-sound h = begin-sound s t 0 h
 
   -- "Refusals 1, 2, 4, 5": without events nothing is refused by 3
   pub begun-never-3 : beginOf s t 0 .number ≡ 3 → ⊥
@@ -66,7 +61,7 @@ module _ (s t : List ℕ) where
     begun-topics = rw e (begun-rows .topics-fit)
 
     pub begun-long : g .number ≡ 0 → length s ≡ 5120
-    begun-long = rw e long
+    begun-long = rw e (begin-long s t 0)
 
 -- ---- how it ends
 

@@ -4,7 +4,8 @@ use native.Mathlib.Omega.{arith}
 use mathlib.Core.Path.{_≡_, sym, ap, subst, _∙_}
 use Rattle.network.specs.Network.{Rows}
 use Rattle.engine.specs.declared.Begun.{Begun}
-use Rattle.engine.specs.RunEnds.{begin-rows, begin-long, ends-refused, ends-run}
+use Rattle.engine.specs.RunEnds.{ends-refused, ends-run}
+use Rattle.engine.specs.StartFacts.{begin-rows, begin-long}
 use Rattle.engine.proofs.running.run_core.Statement.{statement}
 use Rattle.engine.proofs.running.run_core.Tie as tie
 

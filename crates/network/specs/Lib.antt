@@ -10,6 +10,7 @@ pub mod SoundIff
 pub mod Zeros
 pub mod OpenedSound
 pub mod Trips
+pub mod SameNetwork
 pub mod Layout
 pub mod Opening
 pub mod Storing

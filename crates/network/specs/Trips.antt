@@ -3,25 +3,29 @@ use mathlib.Core.Path.{_≡_, refl, sym, ap, ap₂, _∙_}
 use mathlib.Core.Bool.{Bool, true, false, not}
 use mathlib.Core.List.{List}
 use Prim.Native.Nat.{ℕ, zero, suc, _+_, _*_, _/_, _%_, _^_, _≤_, _<_}
-use native.Mathlib.Nat.{div-one}
+use native.Mathlib.Nat.{zero-div}
 use native.Mathlib.Omega.{arith}
 use lib.Dec.{eqb}
-use lib.ListN.{length, getD}
+use lib.ListN.{length, getD, replicate, length-replicate}
 use borrow.Author.Tests.{eq-eqb}
 use Rattle.sets.specs.Set.{has, digit}
+use Rattle.sets.specs.Members.{has-none}
 use Rattle.sets.specs.Build.{setOf-same, setOf-has}
 use Rattle.sets.specs.Least.{lowestOf-none}
-use Rattle.lists.specs.Tab.{tab, length-tab, getD-tab, is-tab}
+use Rattle.lists.specs.Tab.{length-tab, getD-tab, is-tab, tab-below}
 use Rattle.endian.specs.Le.{Bytes, le, le-4, le-8}
 use Rattle.network.specs.declared.Network.{Network}
-use Rattle.network.specs.Network.{peer, topic, mk, pubsOf, subsOf, neighboursOf, pendingOf, seenOf, knownOf, Shaped}
+use Rattle.network.specs.Network.{peer, Shaped}
 use Rattle.network.specs.Sound.{Sound}
-use Rattle.network.specs.Rules.{faultOf, headOf, faultIn}
-use Rattle.network.specs.State.{word, wordIn, long, longIn, knownIn, netOf, faultAt, unsoundAt, opened, openOf, wordAt, wordOf, byteOf, bytesOf}
+use Rattle.network.specs.Rules.{faultOf, faultIn, lowestFault}
+use Rattle.network.specs.State.{word, wordIn, long, longIn, knownIn, netOf, faultAt, unsoundAt, blankNet, opened, openOf, wordAt, wordOf, byteOf, bytesOf, wrote, writeOf, writtenOf}
 use Rattle.network.specs.Storing.{word-of, word-known, byte-of}
+use Rattle.network.specs.Zeros.{getD-zeros}
 use Rattle.network.specs.Opening.{open-0}
+use Rattle.network.specs.Writing.{write-0}
+use Rattle.network.specs.SameNetwork.{mk-same}
 use Rattle.network.specs.SoundIff.{sound-faults}
-use Rattle.network.specs.OpenedSound.{word-lt, head-is, fault-head-right, none-unsound, accepted}
+use Rattle.network.specs.OpenedSound.{blank-sound, word-lt, head-is, fault-head-right, none-unsound, accepted}
 
 -- ---- reading, then writing
 
@@ -83,10 +87,6 @@ read-write b h e =
     rw (a .is) (sym (is-tab 5120 (byteOf (netOf b)) b (a .long) λ i l. sym (bytes-back b h heads i l)))
 
 -- ---- writing, then reading
-
--- networks with equal parts
-pub mk-same : {a a′ : ℕ} {b b′ c c′ d d′ e e′ f f′ g g′ : List ℕ} → a ≡ a′ → b ≡ b′ → c ≡ c′ → d ≡ d′ → e ≡ e′ → f ≡ f′ → g ≡ g′ → mk a b c d e f g ≡ mk a′ b′ c′ d′ e′ f′ g′
-mk-same p q r s t u v = cc
 
 -- four bytes make the number again
 four-bytes : (x : ℕ) → x < 2 ^ 32 → x / 1 % 256 + 256 * (x / 256 % 256 + 256 * (x / 65536 % 256 + 256 * (x / 16777216 % 256))) ≡ x
@@ -173,13 +173,48 @@ module _ (n : Network) (s : Shaped n) where
   unfolding wordAt
   written-fault p l = ap₂ (λ (w : ℕ) (m : Network). faultOf w m (peer p)) (written p 0 l (omega arith)) net-back
 
--- a written state has its length
+-- a written state has its length, and is bytes
 pub bytes-long : (n : Network) → length (bytesOf n) ≡ 5120
 unfolding bytesOf
 bytes-long n = length-tab 5120 (byteOf n)
+
+pub bytes-fit : (n : Network) → Bytes (bytesOf n)
+unfolding bytesOf byteOf
+bytes-fit n = tab-below 5120 (byteOf n) 256 (omega arith) λ i l. omega arith
 
 -- "and the reverse"
 pub write-read : {n : Network} → Sound n → openOf (bytesOf n) ≡ opened 0 0 n
 unfolding unsoundAt
 write-read {n} s =
     sym (open-0 (bytesOf n) 32 (bytes-long n) (sym (lowestOf-none 32 _ λ p l. ap not (eq-eqb _ _ (written-fault n (s .shaped) p l ∙ sound-faults s (peer p) l)))) (omega arith) (sym (net-back n (s .shaped))))
+
+-- a sound network is never refused
+pub sound-lowest : {n : Network} → Sound n → 32 ≡ lowestFault n
+unfolding lowestFault
+sound-lowest s = sym (lowestOf-none 32 _ λ p l. ap not (eq-eqb _ _ (sound-faults s (peer p) l)))
+
+pub write-sound : {n : Network} → Sound n → (b : List ℕ) → length b ≡ 5120 → (wrote 0 0 ≡ writeOf n b) × (bytesOf n ≡ writtenOf n b)
+write-sound {n} s b h = write-0 n b h (sound-lowest s) (omega arith) refl
+
+-- ---- "A blank network is 5,120 zero bytes."
+
+blank-word : (p k : ℕ) → wordAt blankNet (peer p) k ≡ 0
+unfolding wordAt blankNet
+blank-word p zero = ap digit (has-none p)
+blank-word p (suc zero) = getD-zeros 32 p
+blank-word p (suc (suc zero)) = getD-zeros 32 p
+blank-word p (suc (suc (suc zero))) = getD-zeros 32 p
+blank-word p (suc (suc (suc (suc zero)))) = ap (λ (x : ℕ). x % 2 ^ 32) (getD-zeros 32 p)
+blank-word p (suc (suc (suc (suc (suc zero))))) = ap (λ (x : ℕ). x / 2 ^ 32) (getD-zeros 32 p)
+blank-word p (suc (suc (suc (suc (suc (suc zero)))))) = ap (λ (x : ℕ). x % 2 ^ 32) (getD-zeros 32 p)
+blank-word p (suc (suc (suc (suc (suc (suc (suc zero))))))) = ap (λ (x : ℕ). x / 2 ^ 32) (getD-zeros 32 p)
+blank-word p (suc (suc (suc (suc (suc (suc (suc (suc t)))))))) = getD-zeros 1024 (p * 32 + t)
+
+pub blank-bytes : bytesOf blankNet ≡ replicate 5120 0
+unfolding bytesOf byteOf wordOf
+blank-bytes =
+    sym (is-tab 5120 (byteOf blankNet) (replicate 5120 0) (length-replicate {A = ℕ} 5120 0) λ i l.
+    getD-zeros 5120 i ∙ sym (ap (λ (w : ℕ). w / 256 ^ (i % 4) % 256) (blank-word (i / 4 / 40) (i / 4 % 40)) ∙ ap (λ (x : ℕ). x % 256) (zero-div (256 ^ (i % 4)))))
+
+pub blank-opens : openOf (replicate 5120 0) ≡ opened 0 0 blankNet
+blank-opens = ap openOf (sym blank-bytes) ∙ write-read blank-sound

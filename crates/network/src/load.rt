@@ -1,9 +1,10 @@
 // The words of a state, column by column: each function reads one field of all 32 records (specs/State.antt).
+use crate::Network;
 ghost use mathlib.Core.Path.{_≡_};
 ghost use Prim.Native.Nat.{ℕ, _+_, _*_, _<_};
 ghost use lib.ListN.{length};
 ghost use Rattle.lists.specs.Tab.{tab, Filled};
-ghost use Rattle.network.specs.State.{wordIn, longIn, knownIn};
+ghost use Rattle.network.specs.State.{wordIn, longIn, knownIn, netOf};
 
 // Word j of each record.
 pub(crate) fn words(state: &[u8], j: usize) -> [u32; 32]
@@ -57,4 +58,28 @@ pub(crate) fn known(state: &[u8]) -> [u32; 1024]
         p += 1;
     }
     r
+}
+
+// The network that the words say.
+pub(crate) fn network(state: &[u8]) -> Network
+    requires { ⌜ length (now state) ≡ 5120 ⌝ }
+    ensures { λ r. ⌜ r ≡ netOf (now (state .entry)) ⌝ }
+{
+    let heads = words(state, 0);
+    let present = crate::rules::ones(&heads);
+    let pubs = words(state, 1);
+    let subs = words(state, 2);
+    let neighbours = words(state, 3);
+    let pending = longs(state, 4);
+    let seen = longs(state, 6);
+    let known = known(state);
+    Network {
+        present,
+        pubs,
+        subs,
+        neighbours,
+        pending,
+        seen,
+        known,
+    }
 }

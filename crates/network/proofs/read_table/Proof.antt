@@ -1,25 +1,24 @@
 -- `network::read_table` meets its contract. Assumes nothing.
 use borrow.Author.Needs.{needs}
-use mathlib.Core.Path.{ap, _∙_}
-use Rattle.network.specs.Rows.{listed}
+use mathlib.Core.Path.{_∙_}
 use Rattle.network.specs.Listing.{list-2, list-4, list-0}
 use Rattle.network.proofs.read_table.Statement.{statement}
 use Rattle.network.proofs.read_table.Tie as tie
 
-blank-table-requires : tie.Need-blank-table-requires
-blank-table-requires c κs = search needs
+unlisted-requires : tie.Need-unlisted-requires
+unlisted-requires c κs = search needs
 
 returns : tie.Need-returns
-returns c = ap (listed 2 0) (c .blank-table .ensures) ∙ list-2 _ (c .before .if1 .taken)
+returns c = c .unlisted .ensures ∙ list-2 _ (c .before .if1 .taken)
 
 bad-requires : tie.Need-bad-requires
 bad-requires c κs = search needs
 
-blank-table-requires-2 : tie.Need-blank-table-requires-2
-blank-table-requires-2 c κs = search needs
+unlisted-requires-2 : tie.Need-unlisted-requires-2
+unlisted-requires-2 c κs = search needs
 
 returns-2 : tie.Need-returns-2
-returns-2 c = ap (listed 4 _) (c .blank-table2 .ensures) ∙ list-4 _ _ (c .before .before .before .if1 .left) (c .before .before .bad .ensures) (c .before .if2 .taken)
+returns-2 c = c .unlisted2 .ensures ∙ list-4 _ _ (c .before .before .before .if1 .left) (c .before .before .bad .ensures) (c .before .if2 .taken)
 
 column-requires : tie.Need-column-requires
 column-requires c κs = search needs
@@ -34,10 +33,10 @@ pub read-table-spec : {M : Type 1} → statement M
 read-table-spec =
     tie.close
     (tie.spec
-    blank-table-requires
+    unlisted-requires
     returns
     bad-requires
-    blank-table-requires-2
+    unlisted-requires-2
     returns-2
     column-requires
     column-requires-2

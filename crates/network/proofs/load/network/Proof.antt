@@ -1,0 +1,48 @@
+-- `network::load::network` meets its contract. Assumes nothing.
+use borrow.Author.Needs.{needs}
+use Rattle.network.specs.Opening.{net-is}
+use Rattle.network.proofs.load.network.Statement.{statement}
+use Rattle.network.proofs.load.network.Tie as tie
+
+words-requires : tie.Need-words-requires
+words-requires c κs = search needs
+
+ones-requires : tie.Need-ones-requires
+ones-requires c κs = search needs
+
+words-requires-2 : tie.Need-words-requires-2
+words-requires-2 c κs = search needs
+
+words-requires-3 : tie.Need-words-requires-3
+words-requires-3 c κs = search needs
+
+words-requires-4 : tie.Need-words-requires-4
+words-requires-4 c κs = search needs
+
+longs-requires : tie.Need-longs-requires
+longs-requires c κs = search needs
+
+longs-requires-2 : tie.Need-longs-requires-2
+longs-requires-2 c κs = search needs
+
+known-requires : tie.Need-known-requires
+known-requires c κs = search needs
+
+returns : tie.Need-returns
+returns c =
+    net-is _ (c .before .before .before .before .before .before .before .before .words .ensures) (c .before .before .before .before .before .before .ones .ensures) (c .before .before .before .before .before .words2 .ensures) (c .before .before .before .before .words3 .ensures) (c .before .before .before .words4 .ensures)
+    (c .before .before .longs .ensures) (c .before .longs2 .ensures) (c .known .ensures)
+
+pub network-spec : {M : Type 1} → statement M
+network-spec =
+    tie.close
+    (tie.spec
+    words-requires
+    ones-requires
+    words-requires-2
+    words-requires-3
+    words-requires-4
+    longs-requires
+    longs-requires-2
+    known-requires
+    returns)

@@ -62,9 +62,9 @@ fault-head-right h n p e = ltb-true h 2 (unless-none (ltb h 2) 0 _ e .0)
 -- "A peer is present when byte 0 is 1": the first word of a record is read and written alike
 pub head-is : (b : List ℕ) (p : ℕ) → p < 32 → wordIn b p 0 < 2 → headOf (netOf b) (peer p) ≡ wordIn b p 0
 unfolding netOf
-head-is b p l h = ap digit (has-setOf 32 (λ (q : ℕ). eqb (wordIn b q 0) 1) p l) ∙ go (wordIn b p 0) h
+head-is b p l h = ap digit (has-setOf 32 (λ (q : ℕ). eqb (wordIn b q 0 % 256) 1) p l) ∙ go (wordIn b p 0) h
   where
-    go : (w : ℕ) → w < 2 → digit (eqb w 1) ≡ w
+    go : (w : ℕ) → w < 2 → digit (eqb (w % 256) 1) ≡ w
     go zero c = refl
     go (suc zero) c = refl
     go (suc (suc w)) c = absurd (omega arith)

@@ -2,7 +2,7 @@
 use mathlib.Core.Path.{_≡_, refl, sym, ap, _∙_}
 use mathlib.Core.Bool.{Bool, true, false, cond, not}
 use mathlib.Core.List.{List}
-use Prim.Native.Nat.{ℕ, _≤_, _<_}
+use Prim.Native.Nat.{ℕ, _%_, _≤_, _<_}
 use lib.Dec.{eqb, ltb}
 use lib.ListN.{length, getD}
 use borrow.Author.Tests.{lt-ltb, le-ltb, eq-eqb}
@@ -19,7 +19,7 @@ use Rattle.network.specs.State.{wordIn, longIn, knownIn, netOf, unsoundA
 -- the columns make the network
 pub net-is : (b : List ℕ) {present : ℕ} {heads pubs subs neighbours pending seen known : List ℕ}
     → heads ≡ tab 32 (λ (p : ℕ). wordIn b p 0)
-    → present ≡ setOf 32 (λ (p : ℕ). eqb (getD heads p 0) 1)
+    → present ≡ setOf 32 (λ (p : ℕ). eqb (getD heads p 0 % 256) 1)
     → pubs ≡ tab 32 (λ (p : ℕ). wordIn b p 1)
     → subs ≡ tab 32 (λ (p : ℕ). wordIn b p 2)
     → neighbours ≡ tab 32 (λ (p : ℕ). wordIn b p 3)
@@ -30,8 +30,8 @@ pub net-is : (b : List ℕ) {present : ℕ} {heads pubs subs neighbours pending 
 unfolding netOf
 net-is b {present} {heads} eh e0 e1 e2 e3 e4 e6 e8 = rw (there, e1, e2, e3, e4, e6, e8)
   where
-    there : present ≡ setOf 32 (λ (p : ℕ). eqb (wordIn b p 0) 1)
-    there = e0 ∙ setOf-same 32 _ _ λ p l. ap (λ (w : ℕ). eqb w 1) (ap (λ (h : List ℕ). getD h p 0) eh ∙ getD-tab 32 (λ (p : ℕ). wordIn b p 0) p l)
+    there : present ≡ setOf 32 (λ (p : ℕ). eqb (wordIn b p 0 % 256) 1)
+    there = e0 ∙ setOf-same 32 _ _ λ p l. ap (λ (w : ℕ). eqb (w % 256) 1) (ap (λ (h : List ℕ). getD h p 0) eh ∙ getD-tab 32 (λ (p : ℕ). wordIn b p 0) p l)
 
 -- the lowest record with a fault
 pub unsound-is : (b : List ℕ) {heads : List ℕ} {n : Network} → heads ≡ tab 32 (λ (p : ℕ). wordIn b p 0) → n ≡ netOf b → lowestBy heads n ≡ unsoundAt b

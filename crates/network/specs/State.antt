@@ -37,11 +37,11 @@ longIn b p j = long b (40 * p + j)
 abbrev pub knownIn : List ℕ → ℕ → ℕ
 knownIn b i = wordIn b (i / 32) (8 + i % 32)
 
--- the network that the words say
+-- the network that the words say: "A peer is present when byte 0 is 1."
 unfoldable pub netOf : List ℕ → Network
 netOf b =
     mk
-    (setOf 32 (λ (p : ℕ). eqb (wordIn b p 0) 1))
+    (setOf 32 (λ (p : ℕ). eqb (wordIn b p 0 % 256) 1))
     (tab 32 (λ (p : ℕ). wordIn b p 1))
     (tab 32 (λ (p : ℕ). wordIn b p 2))
     (tab 32 (λ (p : ℕ). wordIn b p 3))

@@ -156,7 +156,7 @@ module _ (n : Network) (s : Shaped n) where
   unfolding netOf wordAt
   net-back =
       mk-same
-      (setOf-same 32 _ _ (λ p l. ap (λ (w : ℕ). eqb w 1) (written p 0 l (omega arith)) ∙ one (has (n .present) p)) ∙ setOf-has 32 (n .present) (s .present))
+      (setOf-same 32 _ _ (λ p l. ap (λ (w : ℕ). eqb (w % 256) 1) (written p 0 l (omega arith)) ∙ one (has (n .present) p)) ∙ setOf-has 32 (n .present) (s .present))
       (sym (is-tab 32 _ (n .pubs) (s .pubs) λ p l. sym (written p 1 l (omega arith))))
       (sym (is-tab 32 _ (n .subs) (s .subs) λ p l. sym (written p 2 l (omega arith))))
       (sym (is-tab 32 _ (n .neighbours) (s .neighbours) λ p l. sym (written p 3 l (omega arith))))
@@ -164,7 +164,7 @@ module _ (n : Network) (s : Shaped n) where
       (sym (is-tab 32 _ (n .seen) (s .seen) λ p l. sym (written-long p 6 (getD (n .seen) p 0) l (omega arith) refl refl)))
       (sym (is-tab 1024 _ (n .known) (s .known) λ i l. sym (written-known i l)))
     where
-      one : (x : Bool) → eqb (digit x) 1 ≡ x
+      one : (x : Bool) → eqb (digit x % 256) 1 ≡ x
       one true = refl
       one false = refl
 

@@ -2,7 +2,7 @@
 // (specs/Rules.antt; specs/Tests.antt has what is tested in place of a rule).
 use crate::Peer;
 ghost use mathlib.Core.Path.{_≡_};
-ghost use Prim.Native.Nat.{ℕ, _<_};
+ghost use Prim.Native.Nat.{ℕ, _%_, _<_};
 ghost use mathlib.Core.List.{[]};
 ghost use lib.Dec.{eqb};
 ghost use lib.ListN.{getD};
@@ -11,14 +11,14 @@ ghost use Rattle.network.specs.Network.{mk};
 ghost use Rattle.network.specs.Rules.{absentFault, presentFault, faultOf, lowestBy};
 ghost use Rattle.network.specs.Tests.{subscribersOf, joinedTo, rowEmpty, listBack, rowKnown};
 
-// The peers whose first word is 1.
+// "A peer is present when byte 0 is 1": the peers whose first word has 1 as its lowest byte.
 pub(crate) fn ones(heads: &[u32; 32]) -> u32
-    ensures { λ r. ⌜ r ≡ setOf 32 (λ (p : ℕ). eqb (getD (now (heads .entry)) p 0) 1) ⌝ }
+    ensures { λ r. ⌜ r ≡ setOf 32 (λ (p : ℕ). eqb (getD (now (heads .entry)) p 0 % 256) 1) ⌝ }
 {
     let mut r: u32 = 0;
     let mut p: u32 = 0;
     while p < 32 {
-        if heads[p as usize] == 1 {
+        if heads[p as usize] % 256 == 1 {
             r = sets::with32(r, p);
         }
         p += 1;

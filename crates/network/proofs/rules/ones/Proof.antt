@@ -2,7 +2,7 @@
 use borrow.Author.Needs.{needs}
 use mathlib.Core.Path.{_≡_, _∙_}
 use mathlib.Core.Logic.{⊎-elim}
-use Prim.Native.Nat.{ℕ, _-_, _≤_}
+use Prim.Native.Nat.{ℕ, _-_, _%_, _≤_}
 use native.Mathlib.Omega.{arith}
 use lib.Dec.{eqb}
 use lib.ListN.{getD}
@@ -13,7 +13,7 @@ use Rattle.network.proofs.rules.ones.Statement.{statement}
 use Rattle.network.proofs.rules.ones.Tie as tie
 
 abbrev Inv-loop : tie.InvT-loop
-Inv-loop heads r₀ p₀ r p = (p ≤ 32) × (r ≡ setOf p (λ (q : ℕ). eqb (getD heads q 0) 1))
+Inv-loop heads r₀ p₀ r p = (p ≤ 32) × (r ≡ setOf p (λ (q : ℕ). eqb (getD heads q 0 % 256) 1))
 
 abbrev μ-loop : tie.MeasureT-loop
 μ-loop heads r₀ p₀ r p = 32 - p

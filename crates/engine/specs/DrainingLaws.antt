@@ -9,7 +9,6 @@ use lib.ListN.{length, getD}
 use borrow.Author.Tests.{eqb-true}
 use Rattle.sets.specs.Bools.{ne-eqb}
 use Rattle.endian.specs.Le.{Bytes}
-use Rattle.network.specs.declared.Network.{Network}
 use Rattle.network.specs.Network.{mk, Rows}
 use Rattle.network.specs.Sound.{Sound}
 use Rattle.network.specs.State.{openOf, bytesOf}

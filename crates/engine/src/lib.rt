@@ -1,8 +1,8 @@
 // The engine: the entry points that a host calls (document 01, "Numbers returned").
 mod alone; // alone.rt: reading, writing and the single forward
 mod counts; // counts.rt: the update of the tally
-mod running; // running.rt: a run over a list of events
-mod start; // start.rt: the refusals 1 to 5
+pub mod running; // running.rt: a run over a list of events
+pub mod start; // start.rt: the refusals 1 to 5
 
 ghost use mathlib.Core.Path.{_≡_};
 ghost use Rattle.engine.specs.Run.{runOf, Ends};

@@ -64,7 +64,7 @@ fn turn(
 }
 
 // Every event of the list, from a network that was read; the lent counts start from zero.
-pub(crate) fn run_events(
+pub fn run_events(
     n: Network,
     rows: Table,
     events: &[u8],

@@ -1,7 +1,6 @@
 // Reading alone, and reading one buffer and writing another.
 ghost use mathlib.Core.Path.{_≡_};
 ghost use Rattle.engine.specs.Alone.{checkOf, copyOf, copiedOf};
-
 use crate::Checked;
 
 // "Reading [..] refuse[s] by 1, then 5, and by nothing else".

@@ -37,8 +37,8 @@ module _ (n : Network) (p : Peer) where
   unfolding emptyRight
   empty-why e =
       let w =
-          six-yes (eqb (pubsOf n p) 0) (eqb (subsOf n p) 0) (eqb (neighboursOf n p) 0) (eqb (pendingOf n p) 0) (eqb (seenOf n p) 0)
-          (all 32 (λ (t : ℕ). eqb (knownOf n p (topic t)) 0)) e in
+      six-yes (eqb (pubsOf n p) 0) (eqb (subsOf n p) 0) (eqb (neighboursOf n p) 0) (eqb (pendingOf n p) 0) (eqb (seenOf n p) 0)
+      (all 32 (λ (t : ℕ). eqb (knownOf n p (topic t)) 0)) e in
       record {
         pubs = eqb-true _ _ (w .0);
         subs = eqb-true _ _ (w .1);

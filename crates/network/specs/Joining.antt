@@ -102,9 +102,9 @@ joined-more : (subs : List ℕ) (q : ℕ) → joinedTo (getD subs q 0) q (tab 32
 unfolding joinedTo
 joined-more subs q =
     is-tab 32 (upTo subs (q + 1)) (edit _ (tab 32 (upTo subs q))) (length-edit _ (tab 32 (upTo subs q)) ∙ length-tab 32 (upTo subs q)) λ t b.
-        getD-edit (λ (t w : ℕ). withIf (has (getD subs q 0) t) q w) (tab 32 (upTo subs q)) t (omega (arith, length-tab 32 (upTo subs q)))
-        ∙ ap (withIf (has (getD subs q 0) t) q) (getD-tab 32 (upTo subs q) t b)
-        ∙ sym (fill-more q (λ (p : ℕ). has (getD subs p 0) t))
+    getD-edit (λ (t w : ℕ). withIf (has (getD subs q 0) t) q w) (tab 32 (upTo subs q)) t (omega (arith, length-tab 32 (upTo subs q)))
+    ∙ ap (withIf (has (getD subs q 0) t) q) (getD-tab 32 (upTo subs q) t b)
+    ∙ sym (fill-more q (λ (p : ℕ). has (getD subs p 0) t))
 
 -- one peer more
 pub subscribers-more : (subs : List ℕ) (q : ℕ) {r r′ : List ℕ} → r ≡ tab 32 (upTo subs q) → r′ ≡ joinedTo (getD subs q 0) q r → r′ ≡ tab 32 (upTo subs (q + 1))

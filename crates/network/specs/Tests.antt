@@ -66,7 +66,7 @@ unfolding subscribersOf
 both-is n p t b =
     ap (λ (w : ℕ). meet w (neighboursOf n p)) (getD-tab 32 (λ (u : ℕ). setOf 32 (λ (q : ℕ). has (getD (n .subs) q 0) u)) t b)
     ∙ is-setOf 32 _ _ (meet-lt 32 _ (neighboursOf n p) (setOf-lt 32 to)) λ q l.
-        has-meet (setOf 32 to) (neighboursOf n p) q ∙ ap (λ (x : Bool). x && has (neighboursOf n p) q) (has-setOf 32 to q l) ∙ and-comm (to q) (has (neighboursOf n p) q)
+    has-meet (setOf 32 to) (neighboursOf n p) q ∙ ap (λ (x : Bool). x && has (neighboursOf n p) q) (has-setOf 32 to q l) ∙ and-comm (to q) (has (neighboursOf n p) q)
   where
     to : ℕ → Bool
     to q = has (getD (n .subs) q 0) t

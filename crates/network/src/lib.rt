@@ -76,7 +76,11 @@ pub fn read(state: &[u8]) -> Opened
     ensures { λ r. ⌜ r ≡ openOf (now (state .entry)) ⌝ }
 {
     if state.len() != 5120 {
-        return Opened { number: 1, place: 0, network: blank() };
+        return Opened {
+            number: 1,
+            place: 0,
+            network: blank(),
+        };
     }
     let heads = load::words(state, 0);
     let pubs = load::words(state, 1);
@@ -86,12 +90,37 @@ pub fn read(state: &[u8]) -> Opened
     let seen = load::longs(state, 6);
     let known = load::known(state);
     let present = rules::ones(&heads);
-    let p = rules::lowest_fault(&heads, present, &pubs, &subs, &neighbours, &pending, &seen, &known);
+    let p = rules::lowest_fault(
+        &heads,
+        present,
+        &pubs,
+        &subs,
+        &neighbours,
+        &pending,
+        &seen,
+        &known,
+    );
     if p < 32 {
-        return Opened { number: 5, place: p, network: blank() };
+        return Opened {
+            number: 5,
+            place: p,
+            network: blank(),
+        };
     }
-    let network = Network { present, pubs, subs, neighbours, pending, seen, known };
-    Opened { number: 0, place: 0, network }
+    let network = Network {
+        present,
+        pubs,
+        subs,
+        neighbours,
+        pending,
+        seen,
+        known,
+    };
+    Opened {
+        number: 0,
+        place: 0,
+        network,
+    }
 }
 
 // Writes the network's bytes.
@@ -102,7 +131,16 @@ pub fn put(n: Network, state: &mut [u8])
     let mut p: usize = 0;
     while p < 32 {
         let head = store::head(n.present, p as u32);
-        store::words(&mut *state, p, head, n.pubs[p], n.subs[p], n.neighbours[p], n.pending[p], n.seen[p]);
+        store::words(
+            &mut *state,
+            p,
+            head,
+            n.pubs[p],
+            n.subs[p],
+            n.neighbours[p],
+            n.pending[p],
+            n.seen[p],
+        );
         store::row(&mut *state, &n.known, p);
         p += 1;
     }
@@ -113,15 +151,33 @@ pub fn write(n: Network, state: &mut [u8]) -> Wrote
     ensures { λ r. ⌜ (r ≡ writeOf n (now (state .entry))) × (now (state .exit) ≡ writtenOf n (now (state .entry))) ⌝ }
 {
     if state.len() != 5120 {
-        return Wrote { number: 1, place: 0 };
+        return Wrote {
+            number: 1,
+            place: 0,
+        };
     }
     let heads = store::heads(n.present);
-    let p = rules::lowest_fault(&heads, n.present, &n.pubs, &n.subs, &n.neighbours, &n.pending, &n.seen, &n.known);
+    let p = rules::lowest_fault(
+        &heads,
+        n.present,
+        &n.pubs,
+        &n.subs,
+        &n.neighbours,
+        &n.pending,
+        &n.seen,
+        &n.known,
+    );
     if p < 32 {
-        return Wrote { number: 5, place: p };
+        return Wrote {
+            number: 5,
+            place: p,
+        };
     }
     put(n, state);
-    Wrote { number: 0, place: 0 }
+    Wrote {
+        number: 0,
+        place: 0,
+    }
 }
 
 // The table that the rows say. Refused by 2, then by 4 with the lowest bad row, with a table of zeros.
@@ -129,20 +185,35 @@ pub fn read_table(table: &[u8]) -> Listed
     ensures { λ r. ⌜ r ≡ listOf (now (table .entry)) ⌝ }
 {
     if table.len() != 256 {
-        return Listed { number: 2, place: 0, table: blank_table() };
+        return Listed {
+            number: 2,
+            place: 0,
+            table: blank_table(),
+        };
     }
     let r = rows::bad(table);
     if r < 64 {
-        return Listed { number: 4, place: r, table: blank_table() };
+        return Listed {
+            number: 4,
+            place: r,
+            table: blank_table(),
+        };
     }
     let topics = rows::column(table, 0);
     let origins = rows::column(table, 1);
-    Listed { number: 0, place: 0, table: Table { topics, origins } }
+    Listed {
+        number: 0,
+        place: 0,
+        table: Table { topics, origins },
+    }
 }
 
 // A table of zeros.
 fn blank_table() -> Table
     ensures { λ r. ⌜ r ≡ blankTable ⌝ }
 {
-    Table { topics: [0u8; 64], origins: [0u8; 64] }
+    Table {
+        topics: [0u8; 64],
+        origins: [0u8; 64],
+    }
 }

@@ -1,7 +1,6 @@
 // The rules of soundness as code: which rule a record breaks first, and which record is the lowest that breaks one
 // (specs/Rules.antt; specs/Tests.antt has what is tested in place of a rule).
 use crate::Peer;
-
 ghost use mathlib.Core.Path.{_≡_};
 ghost use Prim.Native.Nat.{ℕ, _<_};
 ghost use mathlib.Core.List.{[]};
@@ -190,7 +189,16 @@ fn fault(
     if head == 0 {
         return absent_fault(p, pubs, subs, neighbours, pending, seen, known);
     }
-    present_fault(p, present, subs, neighbours, pending, seen, known, subscribers)
+    present_fault(
+        p,
+        present,
+        subs,
+        neighbours,
+        pending,
+        seen,
+        known,
+        subscribers,
+    )
 }
 
 // The lowest record that breaks a rule; 32 where none does.
@@ -210,7 +218,20 @@ pub(crate) fn lowest_fault<'a>(
     let mut p: u8 = 0;
     while p < 32 {
         let i = p as usize;
-        if fault(heads[i], Peer(p), present, pubs, subs, neighbours, pending, seen, known, &subscribers) != 0 {
+        if fault(
+            heads[i],
+            Peer(p),
+            present,
+            pubs,
+            subs,
+            neighbours,
+            pending,
+            seen,
+            known,
+            &subscribers,
+        )
+            != 0
+        {
             return i;
         }
         p += 1;

@@ -31,7 +31,16 @@ pub(crate) fn heads(present: u32) -> [u32; 32]
 }
 
 // The words of record p up to its known subscribers.
-pub(crate) fn words(state: &mut [u8], p: usize, head: u32, pubs: u32, subs: u32, neighbours: u32, pending: u64, seen: u64)
+pub(crate) fn words(
+    state: &mut [u8],
+    p: usize,
+    head: u32,
+    pubs: u32,
+    subs: u32,
+    neighbours: u32,
+    pending: u64,
+    seen: u64,
+)
     requires { ⌜ (length (now state) ≡ 5120) × (p < 32) ⌝ }
     ensures { λ r. ⌜ now (state .exit) ≡ putHead (now (state .entry)) p head pubs subs neighbours pending seen ⌝ }
 {

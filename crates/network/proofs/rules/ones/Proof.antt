@@ -41,12 +41,13 @@ loop-less c = search needs
 
 loop-again : tie.Need-loop-again Inv-loop μ-loop
 loop-again c =
-    let l = c .before .before .before .loop in
-    (search needs,
-    ⊎-elim
-    (λ w. fill-yes (l .p) _ (l .inv .1) (eq-eqb _ _ (w .0 .taken)) (w .2 ∙ w .1 .ensures))
-    (λ w. w .1 ∙ fill-no (l .p) _ (l .inv .1) (ne-eqb _ _ (w .0 .left)))
-    (c .if1 .came))
+    let l = c .before .before .before .loop in (
+      search needs,
+      ⊎-elim
+          (λ w. fill-yes (l .p) _ (l .inv .1) (eq-eqb _ _ (w .0 .taken)) (w .2 ∙ w .1 .ensures))
+          (λ w. w .1 ∙ fill-no (l .p) _ (l .inv .1) (ne-eqb _ _ (w .0 .left)))
+          (c .if1 .came),
+    )
 
 returns : tie.Need-returns Inv-loop μ-loop
 returns c = let e : c .before .loop .p ≡ 32 = omega arith in rw e at (c .before .loop .inv .1)

@@ -36,9 +36,9 @@ run-stops k ev place b n t e = rw (ne-eqb e)
 module _ (ev : List ℕ) (b : Table) (P : ℕ → ℕ → Network → Tally → Final → Type 0)
     (done : (place : ℕ) (n : Network) (t : Tally) → P 0 place n t (allDone place t n))
     (stop : (k place : ℕ) (n : Network) (t : Tally) → (outcomeAt ev place b n .turned .number ≡ 0 → ⊥)
-        → P (suc k) place n t (stopsAt (outcomeAt ev place b n .turned .number) place t n))
+    → P (suc k) place n t (stopsAt (outcomeAt ev place b n .turned .number) place t n))
     (on : (k place : ℕ) (n : Network) (t : Tally) (f : Final) → outcomeAt ev place b n .turned .number ≡ 0
-        → P k (place + 1) (outcomeAt ev place b n .network) (tallyAfter (outcomeAt ev place b n) t) f → P (suc k) place n t f) where
+    → P k (place + 1) (outcomeAt ev place b n .network) (tallyAfter (outcomeAt ev place b n) t) f → P (suc k) place n t f) where
   pub run-ind : (k place : ℕ) (n : Network) (t : Tally) → P k place n t (runFrom k ev place b n t)
   unfolding runFrom
   run-ind zero place n t = done place n t

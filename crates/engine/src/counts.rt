@@ -1,7 +1,6 @@
 // The tally: an update by value, and the same on the three counts of a record that is lent.
 ghost use mathlib.Core.Path.{_≡_};
 ghost use Rattle.engine.specs.Run.{talliedOf, tally, Room};
-
 use crate::Tally;
 
 // One event more: kind 1 is a produce, 2 a forward.

@@ -3,8 +3,8 @@ mod alone; // alone.rt: reading, writing and the single forward
 mod counts; // counts.rt: the update of the tally
 mod draining; // draining.rt: the drain by rounds
 mod imaging; // imaging.rt: the image of a state, written to a second buffer
-mod running; // running.rt: a run over a list of events
-mod start; // start.rt: the refusals 1 to 5
+pub mod running; // running.rt: a run over a list of events
+pub mod start; // start.rt: the refusals 1 to 5
 
 ghost use mathlib.Core.Path.{_≡_};
 ghost use Rattle.engine.specs.Run.{runOf, Ends};

@@ -6,11 +6,10 @@ ghost use Rattle.network.specs.Network.{mk, Rows};
 ghost use Rattle.floodnet.specs.CodeForward.{table};
 ghost use Rattle.engine.specs.Run.{tally, refusedBy, turnOf, runAll, RunsTo, runOf, Ends};
 ghost use Rattle.engine.specs.RunSound.{ReadFits};
-
-use crate::counts;
-use crate::start;
 use crate::Answer;
 use crate::Ran;
+use crate::counts;
+use crate::start;
 use events::Read;
 use floodnet::Turned;
 use network::Network;
@@ -64,7 +63,7 @@ fn turn(
 }
 
 // Every event of the list, from a network that was read; the lent counts start from zero.
-pub(crate) fn run_events(
+pub fn run_events(
     n: Network,
     rows: Table,
     events: &[u8],
@@ -121,7 +120,13 @@ pub(crate) fn run_events(
                 },
             };
         }
-        counts::count_in(&mut *produced, &mut *forwards, &mut *deliveries, turned.kind, turned.deliveries);
+        counts::count_in(
+            &mut *produced,
+            &mut *forwards,
+            &mut *deliveries,
+            turned.kind,
+            turned.deliveries,
+        );
         place += 1;
     }
     Ran {
@@ -164,7 +169,14 @@ pub(crate) fn run_core(
     }
     let n = begun.network;
     let rows = begun.table;
-    let ran = run_events(n, rows, events, &mut *produced, &mut *forwards, &mut *deliveries);
+    let ran = run_events(
+        n,
+        rows,
+        events,
+        &mut *produced,
+        &mut *forwards,
+        &mut *deliveries,
+    );
     let last = ran.network;
     let answer = ran.answer;
     network::put(last, &mut *state);

@@ -1,7 +1,6 @@
 // What every entry point tests before it begins: the refusals 1 to 5, in order.
 ghost use mathlib.Core.Path.{_≡_};
 ghost use Rattle.engine.specs.Start.{refusedAt, beginOf};
-
 use crate::Begun;
 use network::Table;
 

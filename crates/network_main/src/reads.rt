@@ -80,6 +80,7 @@ pub(crate) fn rule_1() {
     at_first(1, b, 1, 1);
     at_first(1, b, 2, 1);
     at_first(1, b, 3, 128);
+    at_last(1, b, 1, 1);
     let b = states::bytes(states::alone());
     at_last(1, b, 0, 2);
     at_last(1, b, 0, 255);

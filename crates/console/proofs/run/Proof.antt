@@ -3,7 +3,7 @@ use borrow.Author.Needs.{needs}
 use mathlib.Core.Path.{sym, subst}
 use Rattle.network.specs.Network.{Rows}
 use Rattle.engine.specs.declared.Begun.{Begun}
-use Rattle.engine.specs.RunEnds.{begin-rows}
+use Rattle.engine.specs.StartFacts.{begin-rows}
 use Rattle.console.specs.ConsoleLaws.{printed-as, printed-report, text-refused, text-run}
 use Rattle.console.proofs.run.Statement.{statement}
 use Rattle.console.proofs.run.Tie as tie

@@ -1,10 +1,10 @@
 -- Which number a record's first failing rule has, from what the code tests; and that a record with none keeps them all. Assumes nothing.
 use mathlib.Core.Path.{_≡_, refl, sym, ap, _∙_}
-use mathlib.Core.Bool.{Bool, true, false, cond, not, _&&_}
+use mathlib.Core.Bool.{Bool, true, false, not, _&&_}
 use mathlib.Core.List.{List}
 use Prim.Native.Nat.{ℕ, suc, _+_, _≤_, _<_}
 use native.Mathlib.Omega.{arith}
-use lib.Dec.{eqb, ltb}
+use lib.Dec.{eqb}
 use lib.ListN.{getD}
 use borrow.Author.Tests.{le-ltb, eq-eqb, eqb-true}
 use Rattle.sets.specs.Bools.{not-false, and-both, and-yes, ne-eqb}
@@ -14,7 +14,7 @@ use Rattle.network.specs.declared.Peer.{Peer}
 use Rattle.network.specs.declared.Network.{Network}
 use Rattle.network.specs.Network.{peer, mk, topic, pubsOf, subsOf, neighboursOf, pendingOf, seenOf, knownOf}
 use Rattle.network.specs.Sound.{Empty}
-use Rattle.network.specs.Rules.{headRight, emptyRight, ownRight, nearRight, backRight, knownRight, apartRight, unless, absentFault, presentFault, faultOf, faulty, lowestBy}
+use Rattle.network.specs.Rules.{emptyRight, ownRight, nearRight, backRight, knownRight, apartRight, unless, absentFault, presentFault, faultOf, faulty, lowestBy}
 
 -- no number is given: the rule holds, and what comes after it gives none either
 pub unless-none : (a : Bool) (k rest : ℕ) → unless a (suc k) rest ≡ 0 → (a ≡ true) × (rest ≡ 0)

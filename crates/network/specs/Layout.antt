@@ -3,7 +3,7 @@ use mathlib.Core.Path.{_≡_, subst}
 use mathlib.Core.List.{List}
 use Prim.Native.Nat.{ℕ, _+_, _*_, _/_, _%_, _<_}
 use native.Mathlib.Omega.{arith}
-use Rattle.lists.specs.Tab.{Filled, filled-more}
+use Rattle.lists.specs.Tab.{Filled}
 use Rattle.network.specs.State.{wordIn, knownIn}
 
 -- the front of an array, counted otherwise

@@ -1,20 +1,23 @@
+-- the working state, what a sound one is, and its bytes
 pub mod Network
 pub mod Sound
 pub mod Rules
+pub mod State
+pub mod Rows
+-- what follows for every sound network, every state and every table
+pub mod SoundLaws
+pub mod SoundIff
+pub mod OpenedSound
+pub mod Trips
+pub mod SameNetwork
+pub mod Listing
+-- what the code does in place of a definition, and that it comes to the same
 pub mod Faults
 pub mod Tests
 pub mod Joining
 pub mod Backing
-pub mod State
-pub mod SoundIff
 pub mod Zeros
-pub mod OpenedSound
-pub mod Trips
-pub mod SameNetwork
 pub mod Layout
 pub mod Opening
 pub mod Storing
 pub mod Writing
-pub mod Rows
-pub mod Listing
-pub mod SoundLaws

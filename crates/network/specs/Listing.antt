@@ -1,17 +1,16 @@
 -- Reading a message table: what the code has worked out is what `listOf` says, and what it accepts. Assumes nothing.
-use mathlib.Core.Path.{_≡_, refl, sym, ap, _∙_}
+use mathlib.Core.Path.{_≡_, refl, sym, ap}
 use mathlib.Core.Bool.{Bool, true, false, cond, not, _&&_}
 use mathlib.Core.List.{List}
-use Prim.Native.Nat.{ℕ, _+_, _*_, _≤_, _<_}
+use Prim.Native.Nat.{ℕ, _*_, _≤_, _<_}
 use native.Mathlib.Nat.{add-zero}
 use native.Mathlib.Omega.{arith}
 use lib.Dec.{eqb, ltb}
-use lib.ListN.{length, getD, replicate, length-replicate}
+use lib.ListN.{length, getD, length-replicate}
 use borrow.Author.Tests.{lt-ltb, le-ltb, eq-eqb, ltb-true, ltb-false, eqb-true}
 use Rattle.sets.specs.Bools.{ne-eqb, and-yes, and-both, not-false, not-no}
 use Rattle.sets.specs.Least.{lowestOf-least}
 use Rattle.lists.specs.Tab.{tab, length-tab, tab-below}
-use Rattle.network.specs.declared.Table.{Table}
 use Rattle.network.specs.Network.{Rows}
 use Rattle.network.specs.Zeros.{getD-zeros}
 use Rattle.network.specs.Rows.{byteIn, rowRight, badRow, columns, tableOf, blankTable, listed, listOf}

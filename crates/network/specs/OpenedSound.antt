@@ -2,24 +2,24 @@
 use mathlib.Core.Path.{_≡_, refl, sym, ap, _∙_}
 use mathlib.Core.Bool.{Bool, true, false, cond, not, _&&_}
 use mathlib.Core.List.{List}
-use Prim.Native.Nat.{ℕ, zero, suc, _*_, _+_, _/_, _%_, _^_, _≤_, _<_}
+use Prim.Native.Nat.{ℕ, zero, suc, _*_, _+_, _^_, _≤_, _<_}
 use native.Mathlib.Omega.{arith}
 use lib.Dec.{eqb, ltb}
 use lib.ListN.{length, getD, replicate, length-replicate}
 use borrow.Author.Tests.{ltb-true, ltb-false, eqb-true}
-use Rattle.sets.specs.Set.{has, setOf, digit}
+use Rattle.sets.specs.Set.{has, digit}
 use Rattle.sets.specs.Bools.{clash, not-no}
 use Rattle.sets.specs.Members.{has-none}
 use Rattle.sets.specs.Build.{setOf-lt, has-setOf}
 use Rattle.sets.specs.Least.{lowestOf-least}
-use Rattle.lists.specs.Tab.{tab, length-tab, tab-below}
+use Rattle.lists.specs.Tab.{length-tab, tab-below}
 use Rattle.endian.specs.Le.{Bytes, le-lt-4, le-lt-8}
 use Rattle.network.specs.declared.Peer.{Peer}
 use Rattle.network.specs.declared.Network.{Network}
 use Rattle.network.specs.Network.{peer, subscribed, Shaped}
-use Rattle.network.specs.Sound.{Empty, Sound}
-use Rattle.network.specs.Rules.{unless, faultOf, headRight, absentFault, presentFault, headOf, faultIn}
-use Rattle.network.specs.State.{word, wordIn, long, longIn, knownIn, netOf, faultAt, unsoundAt, blankNet, opened, openOf}
+use Rattle.network.specs.Sound.{Sound}
+use Rattle.network.specs.Rules.{faultOf, headOf}
+use Rattle.network.specs.State.{word, wordIn, long, netOf, faultAt, unsoundAt, blankNet, opened, openOf}
 use Rattle.network.specs.SoundIff.{faults-sound}
 use Rattle.network.specs.Faults.{unless-none}
 use Rattle.network.specs.Zeros.{getD-zeros}

@@ -3,12 +3,12 @@
 use mathlib.Core.Path.{_≡_, refl, sym, ap, _∙_}
 use mathlib.Core.Logic.{_↔_, ⊎-elim}
 use mathlib.Core.Bool.{Bool, true, false, not, _&&_, _||_}
-use Prim.Native.Nat.{ℕ, zero, suc, _^_, _≤_, _<_}
+use Prim.Native.Nat.{ℕ, _≤_, _<_}
 use native.Mathlib.Omega.{arith}
 use native.Mathlib.Decide.{decLt}
 use lib.Dec.{eqb}
 use borrow.Author.Tests.{eq-eqb, eqb-true}
-use Rattle.sets.specs.Set.{has, minus, setOf, Subset, digit}
+use Rattle.sets.specs.Set.{has, setOf, Subset, digit}
 use Rattle.sets.specs.Bools.{either, clash, not-false, not-yes}
 use Rattle.sets.specs.Members.{has-none}
 use Rattle.sets.specs.Bounds.{has-out}
@@ -22,7 +22,7 @@ use Rattle.network.specs.declared.Network.{Network}
 use Rattle.network.specs.Network.{peer, topic, message, neighboursOf, pendingOf, knownOf, present, subscribed, linked, pending, saw, knows, Shaped}
 use Rattle.network.specs.Sound.{Empty, Sound}
 use Rattle.network.specs.SoundLaws.{linked-peer, linked-other, pending-peer}
-use Rattle.network.specs.Rules.{emptyRight, ownRight, nearRight, backRight, knownRight, apartRight, absentFault, presentFault, faultOf, headOf, faultIn}
+use Rattle.network.specs.Rules.{emptyRight, ownRight, nearRight, backRight, knownRight, apartRight, absentFault, presentFault, headOf, faultIn}
 use Rattle.network.specs.Faults.{unless-none, empty-why, fault-empty, fault-none, fault-absent, fault-present}
 
 -- ---- a record with no fault keeps every rule

@@ -1,7 +1,7 @@
 -- What every sound network has: what is observed is of peers, topics and messages in range, and only a present peer has anything.
 -- The laws over `Shaped` hold of any network that code can hold. Assumes nothing.
 use mathlib.Core.Path.{_≡_, refl, sym, ap, _∙_}
-use mathlib.Core.Bool.{Bool, true, false, _&&_}
+use mathlib.Core.Bool.{Bool, true, false}
 use mathlib.Core.List.{List}
 use Prim.Native.Nat.{ℕ, _≤_, _<_}
 use native.Mathlib.Nat.{lt-of-not-le}
@@ -14,7 +14,7 @@ use Rattle.network.specs.declared.Peer.{Peer}
 use Rattle.network.specs.declared.Topic.{Topic}
 use Rattle.network.specs.declared.Message.{Message}
 use Rattle.network.specs.declared.Network.{Network}
-use Rattle.network.specs.Network.{pubsOf, subsOf, neighboursOf, pendingOf, seenOf, knownOf, present, publishes, subscribed, linked, pending, saw, knows, Shaped}
+use Rattle.network.specs.Network.{present, publishes, subscribed, linked, pending, saw, knows, Shaped}
 use Rattle.network.specs.Sound.{Empty, Sound}
 
 -- ---- in range

@@ -2,7 +2,7 @@
 --   "numbers are little-endian"; "A state is 32 peer records, 5,120 bytes"; a peer record has "0 present (0 or 1); 1-3 zero;
 --   4-7 pubs; 8-11 subs; 12-15 neighbours; 16-23 pending; 24-31 seen; 32-159 known subscribers for topics 0 to 31, 4 bytes each".
 -- So word 0 of a record is its head, 1 pubs, 2 subs, 3 neighbours, 4-5 pending, 6-7 seen, 8-39 known subscribers.
-use mathlib.Core.Bool.{Bool, cond, not}
+use mathlib.Core.Bool.{cond, not}
 use mathlib.Core.List.{List}
 use Prim.Native.Nat.{ℕ, zero, suc, _+_, _*_, _/_, _%_, _^_}
 use lib.Dec.{eqb, ltb}

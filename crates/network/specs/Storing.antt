@@ -5,7 +5,7 @@ use Prim.Native.Nat.{ℕ, zero, suc, _+_, _*_, _/_, _%_, _^_, _≤_, _<_}
 use native.Mathlib.Nat.{div-one}
 use native.Mathlib.Numerals.{add-one}
 use native.Mathlib.Omega.{arith}
-use lib.ListN.{length, getD, set}
+use lib.ListN.{length, getD}
 use Rattle.lists.specs.Tab.{Filled, filled-more}
 use Rattle.endian.specs.Le.{putLe, length-putLe, putLe-4, putLe-8}
 use Rattle.network.specs.declared.Network.{Network}

@@ -1,5 +1,5 @@
 -- What the code tests in place of a rule of specs/Rules.antt, over the words themselves, and that it is the rule. Assumes nothing.
-use mathlib.Core.Path.{_≡_, refl, sym, ap, _∙_}
+use mathlib.Core.Path.{_≡_, refl, ap, _∙_}
 use mathlib.Core.Bool.{Bool, true, false, not, _&&_, _||_, and-comm}
 use mathlib.Core.List.{List}
 use Prim.Native.Nat.{ℕ, _+_, _*_, _<_}
@@ -19,7 +19,7 @@ use Rattle.network.specs.declared.Network.{Network}
 use Rattle.network.specs.Network.{peer, topic, neighboursOf, knownOf, linked, subscribed}
 use Rattle.network.specs.Rules.{backRight, knownRight}
 
--- a loop that asks the numbers below 32 one by one: the next passes too
+-- a loop that asks the numbers one by one: the next passes too
 pub all-next : (n : ℕ) (f : ℕ → Bool) → all n f ≡ true → f n ≡ true → all (n + 1) f ≡ true
 all-next n f h e = all-more n f ∙ and-both h e
 

@@ -4,7 +4,6 @@ use mathlib.Core.Path.{_≡_, sym, ap, _∙_}
 use mathlib.Core.Bool.{not}
 use Prim.Native.Nat.{ℕ, _-_, _≤_}
 use native.Mathlib.Omega.{arith}
-use Rattle.sets.specs.Bools.{not-yes, not-no}
 use Rattle.sets.specs.Least.{lowestOf, lowestOf-start, lowestOf-on, lowestOf-found}
 use Rattle.network.specs.Rows.{rowRight, badRow}
 use Rattle.network.proofs.rows.bad.Statement.{statement}

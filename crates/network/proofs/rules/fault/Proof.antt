@@ -1,6 +1,6 @@
 -- `network::rules::fault` meets its contract. Assumes nothing.
 use borrow.Author.Needs.{needs}
-use mathlib.Core.Path.{_≡_, sym, _∙_}
+use mathlib.Core.Path.{sym, _∙_}
 use native.Mathlib.Omega.{arith}
 use Rattle.network.specs.Faults.{fault-head, fault-absent, fault-present, absent-same, present-same}
 use Rattle.network.proofs.rules.fault.Statement.{statement}

@@ -1,6 +1,5 @@
 -- `network::rules::join` meets its contract. Assumes nothing.
 use borrow.Author.Needs.{needs}
-use mathlib.Core.Path.{_≡_}
 use native.Mathlib.Omega.{arith}
 use Rattle.network.specs.Joining.{Joins, joins-none, joins-more, joins-all}
 use Rattle.network.proofs.rules.join.Statement.{statement}

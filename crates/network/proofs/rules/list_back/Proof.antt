@@ -1,6 +1,6 @@
 -- `network::rules::list_back` meets its contract. Assumes nothing.
 use borrow.Author.Needs.{needs}
-use mathlib.Core.Path.{_≡_, sym, _∙_}
+use mathlib.Core.Path.{sym, _∙_}
 use native.Mathlib.Omega.{arith}
 use Rattle.sets.specs.Bools.{not-yes, not-no}
 use Rattle.network.specs.Backing.{Backs, backs-none, backs-more, backs-all, backs-not}

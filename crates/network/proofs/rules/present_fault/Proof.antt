@@ -1,7 +1,7 @@
 -- `network::rules::present_fault` meets its contract. Assumes nothing.
 use borrow.Author.Needs.{needs}
 use mathlib.Core.Path.{_≡_, sym, ap, _∙_}
-use mathlib.Core.Bool.{true, false, not}
+use mathlib.Core.Bool.{true, not}
 use mathlib.Core.List.{[]}
 use borrow.Author.Tests.{eq-eqb, ne-eqb}
 use Rattle.sets.specs.Bools.{not-yes, not-no}

@@ -7,7 +7,6 @@ use native.Mathlib.Omega.{arith}
 use lib.Dec.{eqb}
 use lib.ListN.{getD}
 use borrow.Author.Tests.{eq-eqb, ne-eqb}
-use Rattle.sets.specs.Set.{meet}
 use Rattle.sets.specs.Any.{all, all-start, all-no}
 use Rattle.network.specs.Tests.{all-next, rowEmpty}
 use Rattle.network.proofs.rules.row_empty.Statement.{statement}

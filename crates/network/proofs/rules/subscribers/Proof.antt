@@ -1,7 +1,7 @@
 -- `network::rules::subscribers` meets its contract. Assumes nothing.
 use borrow.Author.Needs.{needs}
 use mathlib.Core.Path.{_≡_}
-use Prim.Native.Nat.{ℕ, _-_, _≤_}
+use Prim.Native.Nat.{_-_, _≤_}
 use native.Mathlib.Omega.{arith}
 use Rattle.lists.specs.Tab.{tab}
 use Rattle.network.specs.Tests.{subscribersOf}

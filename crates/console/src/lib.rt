@@ -51,7 +51,14 @@ fn run(state: &[u8], table: &[u8], events: &[u8], out: &mut [u8]) -> usize
     let last = ran.network;
     let answer = ran.answer;
     let show = report::shown(answer.number);
-    report::report(answer.number, answer.place, answer.accepted, last, show, out)
+    report::report(
+        answer.number,
+        answer.place,
+        answer.accepted,
+        last,
+        show,
+        out,
+    )
 }
 
 // What the program prints for its input; answers its length.

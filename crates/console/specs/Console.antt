@@ -2,7 +2,7 @@
 --   "It reads standard input: state, then table, then events; input shorter than 5,120 bytes gives 1, shorter than 5,376 gives 2."
 --   17: "program only, tested first: input above 65,536 bytes".
 use mathlib.Core.Path.{_≡_}
-use mathlib.Core.Bool.{Bool, true, false, cond}
+use mathlib.Core.Bool.{false, cond}
 use mathlib.Core.List.{List}
 use Prim.Native.Nat.{ℕ, _≤_}
 use lib.Dec.{eqb, ltb}

@@ -8,7 +8,6 @@ pub mod start; // start.rt: the refusals 1 to 5
 
 ghost use mathlib.Core.Path.{_≡_};
 ghost use Rattle.engine.specs.Run.{runOf, Ends};
-
 use network::Network;
 use network::Table;
 

@@ -20,3 +20,4 @@ pub mod ForwardAlone
 pub mod Imaging
 pub mod ImagingLaws
 pub mod ForwardRun
+pub mod RunImages

@@ -6,31 +6,17 @@ use mathlib.Core.Path.{_≡_, refl, sym, _∙_}
 use mathlib.Core.List.{List}
 use lib.ListN.{length, getD, set, length-set}
 use lib.Seq.{getD-set-same, getD-set-other, set-getD, ext-getD}
-use Rattle.endian.specs.Le.{le, putLe, length-putLe, before-putLe, le-same, le-putLe, putLe-le, le-4, span}
+use Rattle.endian.specs.Le.{le, putLe, length-putLe, before-putLe, le-same, le-putLe, putLe-le, span, Bytes, le-lt-4}
 use Rattle.events.specs.declared.Fields.{Fields}
 use Rattle.events.specs.Event.{fieldsAt}
 use Rattle.events.specs.Writing.{putHead, putFields}
 use Rattle.events.specs.Fits.{WordsFit}
 use Rattle.events.specs.Decoded.{fields-path}
 
--- every element is a byte
-abbrev pub Bytes : List ℕ → Type 0
-Bytes l = (i : ℕ) → getD l i 0 < 256
-
--- four bytes make a word below 2 ^ 32
-pub le-4-lt : (l : List ℕ) (at : ℕ) → Bytes l → le 4 l at < 2 ^ 32
-le-4-lt l at h =
-    let e = le-4 l at in
-    let a = h at in
-    let b = h (at + 1) in
-    let c = h (at + 2) in
-    let d = h (at + 3) in
-    omega arith
-
 -- the words of fields that stand in bytes fit
 pub words-fit : (l : List ℕ) (at : ℕ) → Bytes l → WordsFit (fieldsAt l at)
 unfolding fieldsAt
-words-fit l at h = record { subs = le-4-lt l (at + 4) h; pubs = le-4-lt l (at + 8) h; neighbours = le-4-lt l (at + 12) h }
+words-fit l at h = record { subs = le-lt-4 l (at + 4) h; pubs = le-lt-4 l (at + 8) h; neighbours = le-lt-4 l (at + 12) h }
 
 pub length-putHead : (l : List ℕ) (at : ℕ) (f : Fields) → length (putHead l at f) ≡ length l
 unfolding putHead

@@ -14,7 +14,8 @@ use Rattle.events.specs.Event.{pickRead, decodeOf, fieldsAt, readAt}
 use Rattle.events.specs.Writing.{fieldsOf, putFields, recordOf, pickBytes, writtenAt}
 use Rattle.events.specs.Fits.{EventFits, WordsFit, small-fits, fits-words}
 use Rattle.events.specs.Decoded.{decode-fields, decode-gave, Judged, decode-judged}
-use Rattle.events.specs.Bytes.{Bytes, words-fit, length-putFields, fields-put, put-fields, same-record}
+use Rattle.endian.specs.Le.{Bytes}
+use Rattle.events.specs.Bytes.{words-fit, length-putFields, fields-put, put-fields, same-record}
 
 -- before the end, the record at the place decides; from there on, the end
 pub read-inside : (l : List ℕ) (place : ℕ) → place < length l / 16 → readAt l place ≡ decodeOf (fieldsAt l (place * 16))

@@ -3,4 +3,3 @@ pub mod Counts
 pub mod Machine
 pub mod Page
 pub mod Loop
-pub mod Image

@@ -13,7 +13,7 @@ ghost use Rattle.broadcastnet.specs.Commit.{together, without, imageNet}
 use network::Network;
 
 // The messages that are pending at any peer.
-fn underway(pending: [u64; 32]) -> u64
+pub fn underway(pending: [u64; 32]) -> u64
     ensures { λ r. ⌜ r ≡ together 32 pending ⌝ }
 {
     let mut w: u64 = 0;
@@ -26,7 +26,7 @@ fn underway(pending: [u64; 32]) -> u64
 }
 
 // Each set without the messages of w.
-fn settled(seen: [u64; 32], w: u64) -> [u64; 32]
+pub fn settled(seen: [u64; 32], w: u64) -> [u64; 32]
     ensures { λ r. ⌜ r ≡ without w seen ⌝ }
 {
     let mut r = [0u64; 32];

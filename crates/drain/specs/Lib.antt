@@ -2,6 +2,7 @@ pub mod Drain
 pub mod Reach
 pub mod ReachLaws
 pub mod Pairs
+pub mod AtOnce
 pub mod Turns
 pub mod DrainLaws
 pub mod Lent

@@ -2,12 +2,15 @@
 //
 // Read specs/Reach.antt: the client's page, demand 3 sentence by sentence over a sound network and its table. specs/Drain.antt
 // says what a drain answers; specs/ReachLaws.antt proves the page. The functions here make the drain on the arrays that a caller
-// lends; specs/Lent.antt has the words of their contracts, specs/Pairs.antt and specs/Turns.antt what their loops keep.
+// lends; specs/Lent.antt has the words of their contracts, specs/Pairs.antt and specs/Turns.antt what their loops keep. specs/AtOnce.antt:
+// a peer's messages forwarded at once are its forwards one by one.
 ghost use mathlib.Core.Path.{_≡_};
-ghost use Prim.Native.Nat.{ℕ, _<_, _≤_};
+ghost use Prim.Native.Nat.{ℕ, _^_, _<_, _≤_};
 ghost use lib.ListN.{length, getD, take};
 ghost use Rattle.sets.specs.Set.{has, count};
+ghost use Rattle.lists.specs.Edit.{edit};
 ghost use Rattle.drain.specs.Pairs.{pairsOf, listOf, waitingOf};
+ghost use Rattle.drain.specs.AtOnce.{ByTopic, gives, AtOnce};
 ghost use Rattle.drain.specs.Lent.{Leads, DrainsTo};
 use network::Message;
 use network::Peer;
@@ -37,21 +40,92 @@ fn waiting(pending: &[u64; 32]) -> u32
     total
 }
 
-// Forwards the messages of `todo` at p, the least first, while `left` of the budget lasts; answers how many.
+// The messages of each topic.
+fn by_topic(topics: &[u8; 64]) -> [u64; 32]
+    requires { ⌜ ((i : ℕ) → getD (now topics) i 0 < 32) ⌝ }
+    ensures { λ r. ⌜ ByTopic (now (topics .entry)) r ⌝ }
+{
+    let mut r = [0u64; 32];
+    for m in 0..64 {
+        let t = topics[m as usize] as usize;
+        r[t] = sets::with64(r[t], m);
+    }
+    r
+}
+
+// The messages of w become pending at each peer of s that has not seen them.
+fn give_set(pending: &mut [u64; 32], seen: &[u64; 32], s: u32, w: u64)
+    ensures { λ z. ⌜ now (pending .exit) ≡ edit (gives w (now (seen .entry)) s) (now (pending .entry)) ⌝ }
+    ensures { λ z. ⌜ s < 2 ^ 32 ⌝ }
+{
+    let mut left = s;
+    while left != 0 {
+        let q = sets::lowest32(left) as usize;
+        pending[q] = sets::union64(pending[q], sets::minus64(w, seen[q]));
+        left = sets::rest32(left);
+    }
+}
+
+// Forwards all messages of `todo` at p, at once: those of one topic together.
+fn forward_set(
+    pending: &mut [u64; 32],
+    seen: &mut [u64; 32],
+    known: &[u32; 1024],
+    topics: &[u8; 64],
+    words: &[u64; 32],
+    p: Peer,
+    todo: u64,
+)
+    requires { ⌜ p .0 < 32 ⌝ }
+    requires { ⌜ ((i : ℕ) → getD (now topics) i 0 < 32) ⌝ }
+    requires { ⌜ ByTopic (now topics) (now words) ⌝ }
+    ensures { λ z. ⌜ AtOnce (now (known .entry)) (now (topics .entry)) (now (pending .entry)) (now (seen .entry)) (p .0) todo (now (pending .exit)) (now (seen .exit)) ⌝ }
+{
+    let i = p.0 as usize;
+    pending[i] = sets::minus64(pending[i], todo);
+    seen[i] = sets::union64(seen[i], todo);
+    for t in 0..32 {
+        let w = sets::meet64(todo, words[t]);
+        if w != 0 {
+            give_set(&mut *pending, &*seen, known[i * 32 + t], w);
+        }
+    }
+}
+
+// Forwards the messages of `todo` at p, the least first, while `left` of the budget lasts; answers how many. All at
+// once where the budget has them all.
 fn drain_peer(
     pending: &mut [u64; 32],
     seen: &mut [u64; 32],
     known: &[u32; 1024],
     topics: &[u8; 64],
+    words: &[u64; 32],
     p: Peer,
     todo: u64,
     left: u32,
 ) -> u32
     requires { ⌜ p .0 < 32 ⌝ }
     requires { ⌜ ((i : ℕ) → getD (now topics) i 0 < 32) ⌝ }
+    requires { ⌜ ByTopic (now topics) (now words) ⌝ }
     ensures { λ r. ⌜ r ≡ length (take left (pairsOf (p .0) todo 64)) ⌝ }
     ensures { λ r. ⌜ Leads (now (known .entry)) (now (topics .entry)) (now (pending .entry)) (now (seen .entry)) (take left (pairsOf (p .0) todo 64)) (now (pending .exit)) (now (seen .exit)) ⌝ }
 {
+    if todo == 0 {
+        return 0;
+    }
+    let all = members(todo);
+    if all <= left {
+        forward_set(
+            &mut *pending,
+            &mut *seen,
+            &*known,
+            &*topics,
+            &*words,
+            p,
+            todo,
+        );
+        return all;
+    }
     let mut made: u32 = 0;
     let mut rest = todo;
     while made < left {
@@ -72,10 +146,12 @@ fn drain_listed(
     seen: &mut [u64; 32],
     known: &[u32; 1024],
     topics: &[u8; 64],
+    words: &[u64; 32],
     listed: &[u64; 32],
     left: u32,
 ) -> u32
     requires { ⌜ ((i : ℕ) → getD (now topics) i 0 < 32) ⌝ }
+    requires { ⌜ ByTopic (now topics) (now words) ⌝ }
     ensures { λ r. ⌜ r ≡ length (take left (listOf (now (listed .entry)) 32)) ⌝ }
     ensures { λ r. ⌜ Leads (now (known .entry)) (now (topics .entry)) (now (pending .entry)) (now (seen .entry)) (take left (listOf (now (listed .entry)) 32)) (now (pending .exit)) (now (seen .exit)) ⌝ }
 {
@@ -88,6 +164,7 @@ fn drain_listed(
             &mut *seen,
             &*known,
             &*topics,
+            &*words,
             Peer(p),
             todo,
             left - made,
@@ -103,14 +180,24 @@ fn drain_round(
     seen: &mut [u64; 32],
     known: &[u32; 1024],
     topics: &[u8; 64],
+    words: &[u64; 32],
     left: u32,
 ) -> u32
     requires { ⌜ ((i : ℕ) → getD (now topics) i 0 < 32) ⌝ }
+    requires { ⌜ ByTopic (now topics) (now words) ⌝ }
     ensures { λ r. ⌜ r ≡ length (take left (listOf (now (pending .entry)) 32)) ⌝ }
     ensures { λ r. ⌜ Leads (now (known .entry)) (now (topics .entry)) (now (pending .entry)) (now (seen .entry)) (take left (listOf (now (pending .entry)) 32)) (now (pending .exit)) (now (seen .exit)) ⌝ }
 {
     let listed = *pending;
-    drain_listed(&mut *pending, &mut *seen, &*known, &*topics, &listed, left)
+    drain_listed(
+        &mut *pending,
+        &mut *seen,
+        &*known,
+        &*topics,
+        &*words,
+        &listed,
+        left,
+    )
 }
 
 // Rounds while something is pending and the budget lasts.
@@ -124,6 +211,7 @@ pub fn drain_all(
     requires { ⌜ ((i : ℕ) → getD (now topics) i 0 < 32) ⌝ }
     ensures { λ r. ⌜ DrainsTo (now (known .entry)) (now (topics .entry)) (now (pending .entry)) (now (seen .entry)) budget (now (pending .exit)) (now (seen .exit)) r ⌝ }
 {
+    let words = by_topic(&*topics);
     let mut made: u32 = 0;
     let mut rounds: u32 = 0;
     while made < budget {
@@ -135,7 +223,14 @@ pub fn drain_all(
                 quiet: true,
             };
         }
-        let k = drain_round(&mut *pending, &mut *seen, &*known, &*topics, budget - made);
+        let k = drain_round(
+            &mut *pending,
+            &mut *seen,
+            &*known,
+            &*topics,
+            &words,
+            budget - made,
+        );
         made += k;
         if k == due {
             rounds += 1;

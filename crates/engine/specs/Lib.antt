@@ -16,6 +16,7 @@ pub mod Draining
 pub mod DrainingLaws
 pub mod DrainingReach
 pub mod StartFacts
+pub mod Lent
 pub mod ForwardAlone
 pub mod Imaging
 pub mod ImagingLaws

@@ -87,6 +87,10 @@ runFrom (suc k) ev place b n t =
 unfoldable pub runAll : List ℕ → Table → Network → Final
 runAll ev b n = runFrom (length ev / 16) ev 0 b n zeroTally
 
+-- how it ended, by its parts
+abbrev pub ran : Answer → Network → Ran
+ran r n = record { answer = r; network = n }
+
 -- what a function that runs events answers and leaves
 pub record RunsTo (r : Ran) (t : Tally) (f : Final) : Type 0 where
   pub answer : r .answer ≡ f .answer

@@ -11,10 +11,18 @@ use Rattle.network.specs.State.{openOf}
 use Rattle.network.specs.State.{blankNet}
 use Rattle.network.specs.Rows.{listOf, blankTable}
 use Rattle.engine.specs.declared.Begun.{Begun}
+use Rattle.engine.specs.declared.Started.{Started}
 
 -- refused by a number at a place: nothing was read
 abbrev pub refusedAt : ℕ → ℕ → Begun
 refusedAt number place = record { number = number; place = place; network = blankNet; table = blankTable }
+
+-- the same where arrays were lent: the network that they are then is the one read; where the reading is refused it is not read on
+abbrev pub unstartedAt : ℕ → ℕ → Started
+unstartedAt number place = record { number = number; place = place; present = 0; table = blankTable }
+
+abbrev pub begunAs : Started → Network → Begun
+begunAs r n = record { number = r .number; place = r .place; network = cond (eqb (r .number) 0) n blankNet; table = r .table }
 
 -- "1 state isn't 5,120 bytes; 2 message table isn't 256 bytes; 3 event bytes aren't a multiple of 16; 4 a message row has topic or
 -- origin above 31, or bytes 2-3 not zero (lowest such row); 5 state unsound (lowest unsound record)"

@@ -1,32 +1,34 @@
 // Reading alone, reading one buffer and writing another, and the single forward.
 ghost use mathlib.Core.Path.{_≡_};
-ghost use Rattle.network.specs.Network.{Rows};
-ghost use Rattle.events.specs.Fits.{EventFits};
-ghost use Rattle.floodnet.specs.Step.{after, turnedOf};
 ghost use Rattle.engine.specs.Alone.{checkOf, copyOf, copiedOf, forwardOf};
 ghost use Rattle.engine.specs.ForwardAlone.{forwardedBy};
 use crate::Checked;
 use crate::Forwarded;
 use crate::start;
 use events::Event;
-use floodnet::Turned;
 use network::Message;
-use network::Network;
 use network::Peer;
-use network::Table;
-
-// What one event comes to, and the network after it.
-pub(crate) struct Stepped {
-    pub turned: Turned,
-    pub network: Network,
-}
 
 // "Reading [..] refuse[s] by 1, then 5, and by nothing else".
 #[no_mangle]
 pub extern "C" fn relay_check(state: &[u8]) -> Checked
     ensures { λ r. ⌜ r ≡ checkOf (now (state .entry)) ⌝ }
 {
-    let opened = network::read(state);
+    let mut pubs = [0u32; 32];
+    let mut subs = [0u32; 32];
+    let mut neighbours = [0u32; 32];
+    let mut pending = [0u64; 32];
+    let mut seen = [0u64; 32];
+    let mut known = [0u32; 1024];
+    let opened = network::open(
+        state,
+        &mut pubs,
+        &mut subs,
+        &mut neighbours,
+        &mut pending,
+        &mut seen,
+        &mut known,
+    );
     Checked {
         number: opened.number,
         place: opened.place,
@@ -38,7 +40,21 @@ pub extern "C" fn relay_check(state: &[u8]) -> Checked
 pub extern "C" fn relay_copy(from: &[u8], to: &mut [u8]) -> Checked
     ensures { λ r. ⌜ (r ≡ copyOf (now (from .entry)) (now (to .entry))) × (now (to .exit) ≡ copiedOf (now (from .entry)) (now (to .entry))) ⌝ }
 {
-    let opened = network::read(from);
+    let mut pubs = [0u32; 32];
+    let mut subs = [0u32; 32];
+    let mut neighbours = [0u32; 32];
+    let mut pending = [0u64; 32];
+    let mut seen = [0u64; 32];
+    let mut known = [0u32; 1024];
+    let opened = network::open(
+        from,
+        &mut pubs,
+        &mut subs,
+        &mut neighbours,
+        &mut pending,
+        &mut seen,
+        &mut known,
+    );
     if opened.number != 0 {
         return Checked {
             number: opened.number,
@@ -51,51 +67,19 @@ pub extern "C" fn relay_copy(from: &[u8], to: &mut [u8]) -> Checked
             place: 0,
         };
     }
-    let n = opened.network;
-    network::put(n, to);
+    network::save(
+        opened.present,
+        &pubs,
+        &subs,
+        &neighbours,
+        &pending,
+        &seen,
+        &known,
+        to,
+    );
     Checked {
         number: 0,
         place: 0,
-    }
-}
-
-// One event on a network that is held, and not lent.
-fn step(n: Network, rows: Table, e: Event) -> Stepped
-    requires { ⌜ EventFits e × Rows rows ⌝ }
-    ensures { λ r. ⌜ (r .turned ≡ turnedOf n rows e) × (r .network ≡ after n rows e) ⌝ }
-{
-    let topics = rows.topics;
-    let origins = rows.origins;
-    let mut present = n.present;
-    let mut pubs = n.pubs;
-    let mut subs = n.subs;
-    let mut neighbours = n.neighbours;
-    let mut pending = n.pending;
-    let mut seen = n.seen;
-    let mut known = n.known;
-    let turned = floodnet::step(
-        &mut present,
-        &mut pubs,
-        &mut subs,
-        &mut neighbours,
-        &mut pending,
-        &mut seen,
-        &mut known,
-        &topics,
-        &origins,
-        e,
-    );
-    Stepped {
-        turned,
-        network: Network {
-            present,
-            pubs,
-            subs,
-            neighbours,
-            pending,
-            seen,
-            known,
-        },
     }
 }
 
@@ -116,7 +100,23 @@ fn refused(number: u8, place: usize) -> Forwarded
 pub extern "C" fn relay_forward(state: &mut [u8], table: &[u8], peer: u8, message: u8) -> Forwarded
     ensures { λ r. ⌜ (r ≡ forwardOf (now (state .entry)) (now (table .entry)) peer message .answer) × (now (state .exit) ≡ forwardOf (now (state .entry)) (now (table .entry)) peer message .state) ⌝ }
 {
-    let begun = start::begin(&*state, table, 0);
+    let mut pubs = [0u32; 32];
+    let mut subs = [0u32; 32];
+    let mut neighbours = [0u32; 32];
+    let mut pending = [0u64; 32];
+    let mut seen = [0u64; 32];
+    let mut known = [0u32; 1024];
+    let begun = start::start(
+        &*state,
+        table,
+        0,
+        &mut pubs,
+        &mut subs,
+        &mut neighbours,
+        &mut pending,
+        &mut seen,
+        &mut known,
+    );
     if begun.number != 0 {
         return refused(begun.number, begun.place);
     }
@@ -126,19 +126,38 @@ pub extern "C" fn relay_forward(state: &mut [u8], table: &[u8], peer: u8, messag
     if message > 63 {
         return refused(7, 0);
     }
-    let s = step(
-        begun.network,
-        begun.table,
+    let mut present = begun.present;
+    let rows = begun.table;
+    let topics = rows.topics;
+    let origins = rows.origins;
+    let turned = floodnet::step(
+        &mut present,
+        &mut pubs,
+        &mut subs,
+        &mut neighbours,
+        &mut pending,
+        &mut seen,
+        &mut known,
+        &topics,
+        &origins,
         Event::Forward(Peer(peer), Message(message)),
     );
-    if s.turned.number != 0 {
-        return refused(s.turned.number, 0);
+    if turned.number != 0 {
+        return refused(turned.number, 0);
     }
-    let count = s.turned.deliveries;
-    network::put(s.network, state);
+    network::save(
+        present,
+        &pubs,
+        &subs,
+        &neighbours,
+        &pending,
+        &seen,
+        &known,
+        state,
+    );
     Forwarded {
         number: 0,
         place: 0,
-        deliveries: count,
+        deliveries: turned.deliveries,
     }
 }

@@ -3,7 +3,6 @@ ghost use mathlib.Core.Path.{_≡_};
 ghost use Rattle.engine.specs.Draining.{refusedDrain, drainEndOf};
 use crate::Drained;
 use crate::start;
-use network::Network;
 
 // Nothing was drained.
 fn refused(number: u8, place: usize) -> Drained
@@ -24,31 +23,39 @@ fn refused(number: u8, place: usize) -> Drained
 pub extern "C" fn relay_drain(state: &mut [u8], table: &[u8], budget: u32) -> Drained
     ensures { λ r. ⌜ (r ≡ drainEndOf (now (state .entry)) (now (table .entry)) budget .answer) × (now (state .exit) ≡ drainEndOf (now (state .entry)) (now (table .entry)) budget .state) ⌝ }
 {
-    let begun = start::begin(&*state, table, 0);
+    let mut pubs = [0u32; 32];
+    let mut subs = [0u32; 32];
+    let mut neighbours = [0u32; 32];
+    let mut pending = [0u64; 32];
+    let mut seen = [0u64; 32];
+    let mut known = [0u32; 1024];
+    let begun = start::start(
+        &*state,
+        table,
+        0,
+        &mut pubs,
+        &mut subs,
+        &mut neighbours,
+        &mut pending,
+        &mut seen,
+        &mut known,
+    );
     if begun.number != 0 {
         return refused(begun.number, begun.place);
     }
-    let n = begun.network;
     let rows = begun.table;
     let topics = rows.topics;
-    let present = n.present;
-    let pubs = n.pubs;
-    let subs = n.subs;
-    let neighbours = n.neighbours;
-    let known = n.known;
-    let mut pending = n.pending;
-    let mut seen = n.seen;
     let drains = drain::drain_all(&mut pending, &mut seen, &known, &topics, budget);
-    let last = Network {
-        present,
-        pubs,
-        subs,
-        neighbours,
-        pending,
-        seen,
-        known,
-    };
-    network::put(last, state);
+    network::save(
+        begun.present,
+        &pubs,
+        &subs,
+        &neighbours,
+        &pending,
+        &seen,
+        &known,
+        state,
+    );
     Drained {
         number: 0,
         place: 0,

@@ -8,7 +8,21 @@ use crate::Checked;
 pub extern "C" fn relay_image(state: &[u8], image: &mut [u8]) -> Checked
     ensures { λ r. ⌜ (r ≡ imageAnswerOf (now (state .entry)) (now (image .entry))) × (now (image .exit) ≡ imagedOf (now (state .entry)) (now (image .entry))) ⌝ }
 {
-    let opened = network::read(state);
+    let mut pubs = [0u32; 32];
+    let mut subs = [0u32; 32];
+    let mut neighbours = [0u32; 32];
+    let mut pending = [0u64; 32];
+    let mut seen = [0u64; 32];
+    let mut known = [0u32; 1024];
+    let opened = network::open(
+        state,
+        &mut pubs,
+        &mut subs,
+        &mut neighbours,
+        &mut pending,
+        &mut seen,
+        &mut known,
+    );
     if opened.number != 0 {
         return Checked {
             number: opened.number,
@@ -21,8 +35,20 @@ pub extern "C" fn relay_image(state: &[u8], image: &mut [u8]) -> Checked
             place: 0,
         };
     }
-    let n = broadcastnet::image(opened.network);
-    network::put(n, image);
+    let settled = broadcastnet::settled(seen, broadcastnet::underway(pending));
+    let none = [0u32; 32];
+    let empty = [0u64; 32];
+    let unknown = [0u32; 1024];
+    network::save(
+        opened.present,
+        &pubs,
+        &subs,
+        &none,
+        &empty,
+        &settled,
+        &unknown,
+        image,
+    );
     Checked {
         number: 0,
         place: 0,

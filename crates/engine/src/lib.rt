@@ -67,6 +67,14 @@ pub struct Begun {
     pub table: Table,
 }
 
+// The same where the network was read into lent arrays: who is present, and the table.
+pub struct Started {
+    pub number: u8,
+    pub place: usize,
+    pub present: u32,
+    pub table: Table,
+}
+
 // How a run over events ended: its answer, and the network then.
 pub struct Ran {
     pub answer: Answer,

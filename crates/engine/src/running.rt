@@ -4,7 +4,7 @@ ghost use mathlib.Core.Path.{_≡_};
 ghost use Prim.Native.Nat.{_≤_};
 ghost use Rattle.network.specs.Network.{mk, Rows};
 ghost use Rattle.floodnet.specs.CodeForward.{table};
-ghost use Rattle.engine.specs.Run.{tally, refusedBy, turnOf, runAll, RunsTo, runOf, Ends};
+ghost use Rattle.engine.specs.Run.{tally, refusedBy, turnOf, ran, runAll, RunsTo, runOf, Ends};
 ghost use Rattle.engine.specs.RunSound.{ReadFits};
 use crate::Answer;
 use crate::Ran;
@@ -62,62 +62,49 @@ fn turn(
     }
 }
 
-// Every event of the list, from a network that was read; the lent counts start from zero.
-pub fn run_events(
-    n: Network,
-    rows: Table,
+// Every event of the list, on the lent parts of a network; the lent counts start from zero.
+pub(crate) fn run_parts(
+    present: &mut u32,
+    pubs: &mut [u32; 32],
+    subs: &mut [u32; 32],
+    neighbours: &mut [u32; 32],
+    pending: &mut [u64; 32],
+    seen: &mut [u64; 32],
+    known: &mut [u32; 1024],
+    topics: &[u8; 64],
+    origins: &[u8; 64],
     events: &[u8],
     produced: &mut u64,
     forwards: &mut u64,
     deliveries: &mut u64,
-) -> Ran
-    requires { ⌜ Rows rows ⌝ }
-    ensures { λ r. ⌜ RunsTo r (tally (now (produced .exit)) (now (forwards .exit)) (now (deliveries .exit))) (runAll (now (events .entry)) rows n) ⌝ }
+) -> Answer
+    requires { ⌜ Rows (table (now topics) (now origins)) ⌝ }
+    ensures { λ r. ⌜ RunsTo (ran r (mk (now (present .exit)) (now (pubs .exit)) (now (subs .exit)) (now (neighbours .exit)) (now (pending .exit)) (now (seen .exit)) (now (known .exit)))) (tally (now (produced .exit)) (now (forwards .exit)) (now (deliveries .exit))) (runAll (now (events .entry)) (table (now (topics .entry)) (now (origins .entry))) (mk (now (present .entry)) (now (pubs .entry)) (now (subs .entry)) (now (neighbours .entry)) (now (pending .entry)) (now (seen .entry)) (now (known .entry)))) ⌝ }
 {
     *produced = 0;
     *forwards = 0;
     *deliveries = 0;
-    let topics = rows.topics;
-    let origins = rows.origins;
-    let mut present = n.present;
-    let mut pubs = n.pubs;
-    let mut subs = n.subs;
-    let mut neighbours = n.neighbours;
-    let mut pending = n.pending;
-    let mut seen = n.seen;
-    let mut known = n.known;
     let count = events.len() / 16;
     let mut place: usize = 0;
     while place < count {
         let turned = turn(
-            &mut present,
-            &mut pubs,
-            &mut subs,
-            &mut neighbours,
-            &mut pending,
-            &mut seen,
-            &mut known,
-            &topics,
-            &origins,
+            &mut *present,
+            &mut *pubs,
+            &mut *subs,
+            &mut *neighbours,
+            &mut *pending,
+            &mut *seen,
+            &mut *known,
+            topics,
+            origins,
             events::event_at(events, place),
         );
         let number = turned.number;
         if number != 0 {
-            return Ran {
-                answer: Answer {
-                    number,
-                    place,
-                    accepted: place,
-                },
-                network: Network {
-                    present,
-                    pubs,
-                    subs,
-                    neighbours,
-                    pending,
-                    seen,
-                    known,
-                },
+            return Answer {
+                number,
+                place,
+                accepted: place,
             };
         }
         counts::count_in(
@@ -129,12 +116,51 @@ pub fn run_events(
         );
         place += 1;
     }
+    Answer {
+        number: 0,
+        place: 0,
+        accepted: place,
+    }
+}
+
+// The same from a network by value.
+pub fn run_events(
+    n: Network,
+    rows: Table,
+    events: &[u8],
+    produced: &mut u64,
+    forwards: &mut u64,
+    deliveries: &mut u64,
+) -> Ran
+    requires { ⌜ Rows rows ⌝ }
+    ensures { λ r. ⌜ RunsTo r (tally (now (produced .exit)) (now (forwards .exit)) (now (deliveries .exit))) (runAll (now (events .entry)) rows n) ⌝ }
+{
+    let topics = rows.topics;
+    let origins = rows.origins;
+    let mut present = n.present;
+    let mut pubs = n.pubs;
+    let mut subs = n.subs;
+    let mut neighbours = n.neighbours;
+    let mut pending = n.pending;
+    let mut seen = n.seen;
+    let mut known = n.known;
+    let answer = run_parts(
+        &mut present,
+        &mut pubs,
+        &mut subs,
+        &mut neighbours,
+        &mut pending,
+        &mut seen,
+        &mut known,
+        &topics,
+        &origins,
+        events,
+        &mut *produced,
+        &mut *forwards,
+        &mut *deliveries,
+    );
     Ran {
-        answer: Answer {
-            number: 0,
-            place: 0,
-            accepted: place,
-        },
+        answer,
         network: Network {
             present,
             pubs,
@@ -147,8 +173,9 @@ pub fn run_events(
     }
 }
 
-// The run on bytes: refused before any event with everything untouched, or the events are run and the state is written. The three
-// counts are the host's own, lent one by one.
+// The run on bytes: refused before any event with everything untouched, or the events are run and the state is written. The network
+// is read into arrays of this function's own, run on there and written from there: it is never copied. The three counts are the
+// host's own, lent one by one.
 pub(crate) fn run_core(
     state: &mut [u8],
     table: &[u8],
@@ -159,7 +186,23 @@ pub(crate) fn run_core(
 ) -> Answer
     ensures { λ r. ⌜ Ends r (now (state .exit)) (tally (now (produced .exit)) (now (forwards .exit)) (now (deliveries .exit))) (runOf (now (state .entry)) (now (table .entry)) (now (events .entry)) (tally (now (produced .entry)) (now (forwards .entry)) (now (deliveries .entry)))) ⌝ }
 {
-    let begun = start::begin(&*state, table, events.len());
+    let mut pubs = [0u32; 32];
+    let mut subs = [0u32; 32];
+    let mut neighbours = [0u32; 32];
+    let mut pending = [0u64; 32];
+    let mut seen = [0u64; 32];
+    let mut known = [0u32; 1024];
+    let begun = start::start(
+        &*state,
+        table,
+        events.len(),
+        &mut pubs,
+        &mut subs,
+        &mut neighbours,
+        &mut pending,
+        &mut seen,
+        &mut known,
+    );
     if begun.number != 0 {
         return Answer {
             number: begun.number,
@@ -167,18 +210,34 @@ pub(crate) fn run_core(
             accepted: 0,
         };
     }
-    let n = begun.network;
+    let mut present = begun.present;
     let rows = begun.table;
-    let ran = run_events(
-        n,
-        rows,
+    let topics = rows.topics;
+    let origins = rows.origins;
+    let answer = run_parts(
+        &mut present,
+        &mut pubs,
+        &mut subs,
+        &mut neighbours,
+        &mut pending,
+        &mut seen,
+        &mut known,
+        &topics,
+        &origins,
         events,
         &mut *produced,
         &mut *forwards,
         &mut *deliveries,
     );
-    let last = ran.network;
-    let answer = ran.answer;
-    network::put(last, &mut *state);
+    network::save(
+        present,
+        &pubs,
+        &subs,
+        &neighbours,
+        &pending,
+        &seen,
+        &known,
+        &mut *state,
+    );
     answer
 }

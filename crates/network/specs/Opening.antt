@@ -1,5 +1,5 @@
 -- Reading a state: what the code has worked out is what `openOf` says. Assumes nothing.
-use mathlib.Core.Path.{_≡_, ap, _∙_}
+use mathlib.Core.Path.{_≡_, refl, ap, _∙_}
 use mathlib.Core.Bool.{not}
 use mathlib.Core.List.{List}
 use Prim.Native.Nat.{ℕ, _%_, _≤_, _<_}
@@ -14,7 +14,9 @@ use Rattle.lists.specs.Tab.{tab, getD-tab}
 use Rattle.network.specs.declared.Network.{Network}
 use Rattle.network.specs.Network.{peer, mk}
 use Rattle.network.specs.Rules.{faultOf, faulty, lowestBy}
-use Rattle.network.specs.State.{wordIn, longIn, knownIn, netOf, unsoundAt, blankNet, opened, openOf}
+use Rattle.network.specs.declared.Opened.{Opened}
+use Rattle.network.specs.declared.Looked.{Looked}
+use Rattle.network.specs.State.{wordIn, longIn, knownIn, netOf, unsoundAt, blankNet, opened, openOf, openedAs, overOf, Opens}
 
 -- the columns make the network
 pub net-is : (b : List ℕ) {present : ℕ} {heads pubs subs neighbours pending seen known : List ℕ}
@@ -50,3 +52,24 @@ open-5 b p h e l = rw (eq-eqb (length b) 5120 h, lt-ltb (unsoundAt b) 32 (rw e a
 pub open-0 : (b : List ℕ) (p : ℕ) {n : Network} → length b ≡ 5120 → p ≡ unsoundAt b → 32 ≤ p → n ≡ netOf b → opened 0 0 n ≡ openOf b
 unfolding openOf
 open-0 b p h e l en = rw (eq-eqb (length b) 5120 h, le-ltb (unsoundAt b) 32 (rw e at l), en)
+
+-- the same of reading into lent arrays
+abbrev pub looked : ℕ → ℕ → ℕ → Looked
+looked number place present = record { number = number; place = place; present = present }
+
+pub opens-1 : (b : List ℕ) (old : Network) → (length b ≡ 5120 → ⊥) → Opens b old (looked 1 0 (old .present)) old
+unfolding openedAs overOf
+opens-1 b old h = record { answer = open-1 b h; arrays = rw (ne-eqb h) }
+
+pub opens-5 : (b : List ℕ) (old : Network) (p : ℕ) {n : Network} → length b ≡ 5120 → p ≡ unsoundAt b → p < 32 → n ≡ netOf b → Opens b old (looked 5 p (n .present)) n
+unfolding openedAs overOf
+opens-5 b old p h e l en = record { answer = open-5 b p h e l; arrays = rw (eq-eqb (length b) 5120 h) en }
+
+pub opens-0 : (b : List ℕ) (old : Network) (p : ℕ) {n : Network} → length b ≡ 5120 → p ≡ unsoundAt b → 32 ≤ p → n ≡ netOf b → Opens b old (looked 0 0 (n .present)) n
+unfolding openedAs overOf
+opens-0 b old p h e l en = record { answer = open-0 b p h e l en; arrays = rw (eq-eqb (length b) 5120 h) en }
+
+-- what was read is the network
+pub opens-net : {b : List ℕ} {old : Network} {r : Looked} {n : Network} → Opens b old r n → r .number ≡ 0 → n ≡ openOf b .network
+unfolding openedAs
+opens-net {b} {old} {r} {n} o z = rw (← (o .answer), z)

@@ -2,6 +2,7 @@
 --   "numbers are little-endian"; "A state is 32 peer records, 5,120 bytes"; a peer record has "0 present (0 or 1); 1-3 zero;
 --   4-7 pubs; 8-11 subs; 12-15 neighbours; 16-23 pending; 24-31 seen; 32-159 known subscribers for topics 0 to 31, 4 bytes each".
 -- So word 0 of a record is its head, 1 pubs, 2 subs, 3 neighbours, 4-5 pending, 6-7 seen, 8-39 known subscribers.
+use mathlib.Core.Path.{_≡_}
 use mathlib.Core.Bool.{cond, not}
 use mathlib.Core.List.{List}
 use Prim.Native.Nat.{ℕ, zero, suc, _+_, _*_, _/_, _%_, _^_}
@@ -14,6 +15,7 @@ use Rattle.endian.specs.Le.{le}
 use Rattle.network.specs.declared.Peer.{Peer}
 use Rattle.network.specs.declared.Network.{Network}
 use Rattle.network.specs.declared.Opened.{Opened}
+use Rattle.network.specs.declared.Looked.{Looked}
 use Rattle.network.specs.declared.Wrote.{Wrote}
 use Rattle.network.specs.Network.{peer, topic, mk, pubsOf, subsOf, neighboursOf, pendingOf, seenOf, knownOf}
 use Rattle.network.specs.Rules.{faultOf, headOf, lowestFault}
@@ -69,6 +71,18 @@ openOf b =
     cond (eqb (length b) 5120)
     (cond (ltb (unsoundAt b) 32) (opened 5 (unsoundAt b) blankNet) (opened 0 0 (netOf b)))
     (opened 1 0 blankNet)
+
+-- Reading into lent arrays: its answer, with the network n that the arrays are then in the place of the one read; and that network,
+-- from the one that the arrays were: what the words say, refused or not, where there are 5,120 bytes.
+unfoldable pub openedAs : Looked → Network → Opened
+openedAs r n = opened (r .number) (r .place) (cond (eqb (r .number) 0) n blankNet)
+
+unfoldable pub overOf : List ℕ → Network → Network
+overOf b old = cond (eqb (length b) 5120) (netOf b) old
+
+pub record Opens (b : List ℕ) (old : Network) (r : Looked) (n : Network) : Type 0 where
+  pub answer : openedAs r n ≡ openOf b
+  pub arrays : n ≡ overOf b old
 
 -- ---- writing
 

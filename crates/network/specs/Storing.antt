@@ -6,7 +6,7 @@ use native.Mathlib.Nat.{div-one}
 use native.Mathlib.Numerals.{add-one}
 use native.Mathlib.Omega.{arith}
 use lib.ListN.{length, getD}
-use Rattle.lists.specs.Tab.{Filled, filled-more}
+use Rattle.lists.specs.Tab.{tab, getD-tab, Filled, filled-more}
 use Rattle.endian.specs.Le.{putLe, length-putLe, putLe-4, putLe-8}
 use Rattle.network.specs.declared.Network.{Network}
 use Rattle.network.specs.Network.{peer, topic, pubsOf, subsOf, neighboursOf, pendingOf, seenOf, knownOf}
@@ -90,8 +90,8 @@ putHead l p head pubs subs neighbours pending seen =
 
 -- the buffer with the first t of "32-159 known subscribers for topics 0 to 31, 4 bytes each"
 unfoldable pub putRow : ℕ → List ℕ → List ℕ → ℕ → List ℕ
-putRow zero l known p = l
-putRow (suc t) l known p = putLe 4 (putRow t l known p) (160 * p + 32 + 4 * t) (getD known (p * 32 + t) 0)
+putRow zero l row p = l
+putRow (suc t) l row p = putLe 4 (putRow t l row p) (160 * p + 32 + 4 * t) (getD row t 0)
 
 -- six stores
 pub head-chain : (l : List ℕ) (p head pubs subs neighbours pending seen : ℕ) {l0 l1 l2 l3 l4 l5 : List ℕ} → l0 ≡ putLe 4 l (160 * p) head → l1 ≡ putLe 4 l0 (160 * p + 4) pubs
@@ -104,15 +104,15 @@ pub length-putHead : (l : List ℕ) (p head pubs subs neighbours pending seen : 
 unfolding putHead
 length-putHead l p head pubs subs neighbours pending seen = simp length-putLe
 
-pub length-putRow : (t : ℕ) (l known : List ℕ) (p : ℕ) → length (putRow t l known p) ≡ length l
+pub length-putRow : (t : ℕ) (l row : List ℕ) (p : ℕ) → length (putRow t l row p) ≡ length l
 unfolding putRow
-length-putRow zero l known p = refl
-length-putRow (suc t) l known p = length-putLe 4 (putRow t l known p) _ _ ∙ length-putRow t l known p
+length-putRow zero l row p = refl
+length-putRow (suc t) l row p = length-putLe 4 (putRow t l row p) _ _ ∙ length-putRow t l row p
 
 -- one topic more
-pub putRow-more : (t : ℕ) (l known : List ℕ) (p : ℕ) {r : List ℕ} → r ≡ putRow t l known p → putLe 4 r (160 * p + 32 + 4 * t) (getD known (p * 32 + t) 0) ≡ putRow (t + 1) l known p
+pub putRow-more : (t : ℕ) (l row : List ℕ) (p : ℕ) {r : List ℕ} → r ≡ putRow t l row p → putLe 4 r (160 * p + 32 + 4 * t) (getD row t 0) ≡ putRow (t + 1) l row p
 unfolding putRow
-putRow-more t l known p e = rw add-one (ap (λ (x : List ℕ). putLe 4 x (160 * p + 32 + 4 * t) (getD known (p * 32 + t) 0)) e)
+putRow-more t l row p e = rw add-one (ap (λ (x : List ℕ). putLe 4 x (160 * p + 32 + 4 * t) (getD row t 0)) e)
 
 -- the front of the buffer after each
 pub filled-head : (n : Network) (p : ℕ) {l : List ℕ} → p < 32 → Filled 5120 (byteOf n) (160 * p) l
@@ -127,18 +127,20 @@ filled-head n p {l} b f =
     let s4 = filled-to (160 * p + 24) (filled-put8 n (40 * p + 4) (160 * p + 16) (pendingOf n (peer p)) (omega arith) (omega arith) s3 (w 4 (omega arith)) (w 5 (omega arith) ∙ ap (wordOf n) (omega arith))) (omega arith) in
     filled-to (160 * p + 32) (filled-put8 n (40 * p + 6) (160 * p + 24) (seenOf n (peer p)) (omega arith) (omega arith) s4 (w 6 (omega arith)) (w 7 (omega arith) ∙ ap (wordOf n) (omega arith))) (omega arith)
 
-pub filled-row : (n : Network) (p t : ℕ) {l : List ℕ} → p < 32 → t ≤ 32 → Filled 5120 (byteOf n) (160 * p + 32) l → Filled 5120 (byteOf n) (160 * p + 32 + 4 * t) (putRow t l (n .known) p)
+pub filled-row : (n : Network) (p t : ℕ) {l row : List ℕ} → p < 32 → t ≤ 32 → row ≡ tab 32 (λ (u : ℕ). getD (n .known) (p * 32 + u) 0)
+    → Filled 5120 (byteOf n) (160 * p + 32) l → Filled 5120 (byteOf n) (160 * p + 32 + 4 * t) (putRow t l row p)
 unfolding putRow
-filled-row n p zero b c f = filled-to _ f (omega arith)
-filled-row n p (suc t) b c f =
-    let s = filled-row n p t b (omega arith) f in
-    filled-to _ (filled-put4 n (40 * p + (8 + t)) (160 * p + 32 + 4 * t) (getD (n .known) (p * 32 + t) 0) (omega arith) (omega arith) s (sym (word-known n p t (omega arith)))) (omega arith)
+filled-row n p zero b c e f = filled-to _ f (omega arith)
+filled-row n p (suc t) {l} {row} b c e f =
+    let s = filled-row n p t b (omega arith) e f in
+    let w : getD row t 0 ≡ getD (n .known) (p * 32 + t) 0 = ap (λ (r : List ℕ). getD r t 0) e ∙ getD-tab 32 (λ (u : ℕ). getD (n .known) (p * 32 + u) 0) t (omega arith) in
+    filled-to _ (filled-put4 n (40 * p + (8 + t)) (160 * p + 32 + 4 * t) (getD row t 0) (omega arith) (omega arith) s (w ∙ sym (word-known n p t (omega arith)))) (omega arith)
 
 -- the whole record
-pub filled-record : (n : Network) (p : ℕ) {head : ℕ} {l l1 l2 : List ℕ} → p < 32 → Filled 5120 (byteOf n) (160 * p) l → head ≡ headOf n (peer p)
+pub filled-record : (n : Network) (p : ℕ) {head : ℕ} {l l1 l2 row : List ℕ} → p < 32 → Filled 5120 (byteOf n) (160 * p) l → head ≡ headOf n (peer p)
     → l1 ≡ putHead l p head (pubsOf n (peer p)) (subsOf n (peer p)) (neighboursOf n (peer p)) (pendingOf n (peer p)) (seenOf n (peer p))
-    → l2 ≡ putRow 32 l1 (n .known) p → Filled 5120 (byteOf n) (160 * (p + 1)) l2
-filled-record n p {head} {l} {l1} {l2} b f eh e1 e2 =
+    → row ≡ tab 32 (λ (u : ℕ). getD (n .known) (p * 32 + u) 0) → l2 ≡ putRow 32 l1 row p → Filled 5120 (byteOf n) (160 * (p + 1)) l2
+filled-record n p {head} {l} {l1} {l2} b f eh e1 er e2 =
     let f1 : Filled 5120 (byteOf n) (160 * p + 32) l1 = rw (e1, eh) (filled-head n p b f) in
-    let f2 : Filled 5120 (byteOf n) (160 * p + 32 + 4 * 32) l2 = rw e2 (filled-row n p 32 b (omega arith) f1) in
+    let f2 : Filled 5120 (byteOf n) (160 * p + 32 + 4 * 32) l2 = rw e2 (filled-row n p 32 b (omega arith) er f1) in
     filled-to _ f2 (omega arith)

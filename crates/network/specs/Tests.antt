@@ -1,6 +1,6 @@
 -- What the code tests in place of a rule of specs/Rules.antt, over the words themselves, and that it is the rule. Assumes nothing.
-use mathlib.Core.Path.{_≡_, refl, ap, _∙_}
-use mathlib.Core.Bool.{Bool, true, false, not, _&&_, _||_, and-comm}
+use mathlib.Core.Path.{_≡_, refl, sym, ap, _∙_}
+use mathlib.Core.Bool.{Bool, true, false, not, _&&_, _||_, and-comm, and-true, and-false}
 use mathlib.Core.List.{List}
 use Prim.Native.Nat.{ℕ, _+_, _*_, _<_}
 use lib.Dec.{eqb}
@@ -22,6 +22,13 @@ use Rattle.network.specs.Rules.{backRight, knownRight}
 -- a loop that asks the numbers one by one: the next passes too
 pub all-next : (n : ℕ) (f : ℕ → Bool) → all n f ≡ true → f n ≡ true → all (n + 1) f ≡ true
 all-next n f h e = all-more n f ∙ and-both h e
+
+-- a loop that asks all of them: r says whether all so far passed
+pub all-keep : (n : ℕ) (f : ℕ → Bool) {r : Bool} → r ≡ all n f → f n ≡ true → r ≡ all (n + 1) f
+all-keep n f e h = e ∙ sym (all-more n f ∙ ap (λ (b : Bool). all n f && b) h ∙ and-true (all n f))
+
+pub all-lost : (n : ℕ) (f : ℕ → Bool) → f n ≡ false → false ≡ all (n + 1) f
+all-lost n f h = sym (all-more n f ∙ ap (λ (b : Bool). all n f && b) h ∙ and-false (all n f))
 
 -- the peers subscribed to each topic, from the subs of all peers: worked out once a state
 unfoldable pub subscribersOf : List ℕ → List ℕ

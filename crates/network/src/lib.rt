@@ -11,7 +11,8 @@ mod store;
 
 ghost use mathlib.Core.Path.{_≡_};
 ghost use lib.ListN.{length};
-ghost use Rattle.network.specs.State.{blankNet, opened, openOf, bytesOf, writeOf, writtenOf};
+ghost use Rattle.network.specs.Network.{mk};
+ghost use Rattle.network.specs.State.{blankNet, opened, openOf, Opens, bytesOf, writeOf, writtenOf};
 ghost use Rattle.network.specs.Rows.{blankTable, listed, listOf};
 
 // "A peer number, a topic number and a message number are separate sorts": none stands where another is meant.
@@ -44,6 +45,13 @@ pub struct Opened {
     pub number: u8,
     pub place: usize,
     pub network: Network,
+}
+
+// What reading a state into lent arrays answers: the number, the record at fault, and who is present.
+pub struct Looked {
+    pub number: u8,
+    pub place: usize,
+    pub present: u32,
 }
 
 // What writing a state answers: the number and the record at fault.
@@ -114,27 +122,106 @@ pub fn read(state: &[u8]) -> Opened
     }
 }
 
+// The same, read into lent arrays: where the state has 5,120 bytes they become what its words say, refused or not, and otherwise they
+// stay as they were.
+pub fn open(
+    state: &[u8],
+    pubs: &mut [u32; 32],
+    subs: &mut [u32; 32],
+    neighbours: &mut [u32; 32],
+    pending: &mut [u64; 32],
+    seen: &mut [u64; 32],
+    known: &mut [u32; 1024],
+) -> Looked
+    requires { ⌜ length (now known) ≡ 1024 ⌝ }
+    ensures { λ r. ⌜ Opens (now (state .entry)) (mk 0 (now (pubs .entry)) (now (subs .entry)) (now (neighbours .entry)) (now (pending .entry)) (now (seen .entry)) (now (known .entry))) r (mk (r .present) (now (pubs .exit)) (now (subs .exit)) (now (neighbours .exit)) (now (pending .exit)) (now (seen .exit)) (now (known .exit))) ⌝ }
+{
+    if state.len() != 5120 {
+        return Looked {
+            number: 1,
+            place: 0,
+            present: 0,
+        };
+    }
+    let heads = load::words(state, 0);
+    let present = rules::ones(&heads);
+    *pubs = load::words(state, 1);
+    *subs = load::words(state, 2);
+    *neighbours = load::words(state, 3);
+    *pending = load::longs(state, 4);
+    *seen = load::longs(state, 6);
+    load::fill_known(state, &mut *known);
+    let p = rules::lowest_fault(
+        &heads,
+        present,
+        &*pubs,
+        &*subs,
+        &*neighbours,
+        &*pending,
+        &*seen,
+        &*known,
+    );
+    if p < 32 {
+        return Looked {
+            number: 5,
+            place: p,
+            present,
+        };
+    }
+    Looked {
+        number: 0,
+        place: 0,
+        present,
+    }
+}
+
+// Writes the bytes of the network that the lent arrays are.
+pub fn save<'a>(
+    present: u32,
+    pubs: &'a [u32; 32],
+    subs: &'a [u32; 32],
+    neighbours: &'a [u32; 32],
+    pending: &'a [u64; 32],
+    seen: &'a [u64; 32],
+    known: &'a [u32; 1024],
+    state: &mut [u8],
+)
+    requires { ⌜ length (now state) ≡ 5120 ⌝ }
+    ensures { λ r. ⌜ now (state .exit) ≡ bytesOf (mk present (now (pubs .entry)) (now (subs .entry)) (now (neighbours .entry)) (now (pending .entry)) (now (seen .entry)) (now (known .entry))) ⌝ }
+{
+    let mut p: usize = 0;
+    while p < 32 {
+        let head = store::head(present, p as u32);
+        store::words(
+            &mut *state,
+            p,
+            head,
+            pubs[p],
+            subs[p],
+            neighbours[p],
+            pending[p],
+            seen[p],
+        );
+        store::row(&mut *state, store::row_of(known, p), p);
+        p += 1;
+    }
+}
+
 // Writes the network's bytes.
 pub fn put(n: Network, state: &mut [u8])
     requires { ⌜ length (now state) ≡ 5120 ⌝ }
     ensures { λ r. ⌜ now (state .exit) ≡ bytesOf n ⌝ }
 {
-    let mut p: usize = 0;
-    while p < 32 {
-        let head = store::head(n.present, p as u32);
-        store::words(
-            &mut *state,
-            p,
-            head,
-            n.pubs[p],
-            n.subs[p],
-            n.neighbours[p],
-            n.pending[p],
-            n.seen[p],
-        );
-        store::row(&mut *state, &n.known, p);
-        p += 1;
-    }
+    save(
+        n.present,
+        &n.pubs,
+        &n.subs,
+        &n.neighbours,
+        &n.pending,
+        &n.seen,
+        &n.known,
+        state,
+    );
 }
 
 // Writes the network's bytes, if it is sound. Refused by 1, then by 5 with the lowest unsound record; the buffer stays as it was.

@@ -3,8 +3,9 @@ use crate::Network;
 ghost use mathlib.Core.Path.{_≡_};
 ghost use Prim.Native.Nat.{ℕ, _+_, _*_, _<_};
 ghost use lib.ListN.{length};
-ghost use Rattle.lists.specs.Tab.{tab, Filled};
+ghost use Rattle.lists.specs.Tab.{tab};
 ghost use Rattle.network.specs.State.{wordIn, longIn, knownIn, netOf};
+ghost use Rattle.network.specs.Layout.{RowStored};
 
 // Word j of each record.
 pub(crate) fn words(state: &[u8], j: usize) -> [u32; 32]
@@ -34,29 +35,51 @@ pub(crate) fn longs(state: &[u8], j: usize) -> [u64; 32]
     r
 }
 
-// The known subscribers of record p, the records before it being read.
-fn row(state: &[u8], known: &mut [u32; 1024], p: usize)
-    requires { ⌜ (length (now state) ≡ 5120) × ((p < 32) × Filled 1024 (knownIn (now state)) (32 * p) (now known)) ⌝ }
-    ensures { λ r. ⌜ Filled 1024 (knownIn (now (state .entry))) (32 * p + 32) (now (known .exit)) ⌝ }
+// The known subscribers of record p.
+fn row(state: &[u8], p: usize) -> [u32; 32]
+    requires { ⌜ (length (now state) ≡ 5120) × (p < 32) ⌝ }
+    ensures { λ r. ⌜ r ≡ tab 32 (λ (t : ℕ). wordIn (now (state .entry)) p (8 + t)) ⌝ }
+{
+    let mut r = [0u32; 32];
+    let mut t: usize = 0;
+    while t < 32 {
+        r[t] = endian::le4(state, 4 * (40 * p + (8 + t)));
+        t += 1;
+    }
+    r
+}
+
+// Stores row p, the rows before it being there. The row is passed by value, so that the compiler sees that it is not part of `known`.
+fn put_row(known: &mut [u32; 1024], p: usize, row: [u32; 32])
+    requires { ⌜ (length (now known) ≡ 1024) × (p < 32) ⌝ }
+    ensures { λ r. ⌜ RowStored 32 p row (now (known .entry)) (now (known .exit)) ⌝ }
 {
     let mut t: usize = 0;
     while t < 32 {
-        known[32 * p + t] = endian::le4(state, 4 * (40 * p + (8 + t)));
+        known[32 * p + t] = row[t];
         t += 1;
     }
 }
 
+// Reads the known subscribers of all records into a lent array.
+pub(crate) fn fill_known(state: &[u8], known: &mut [u32; 1024])
+    requires { ⌜ (length (now state) ≡ 5120) × (length (now known) ≡ 1024) ⌝ }
+    ensures { λ r. ⌜ now (known .exit) ≡ tab 1024 (knownIn (now (state .entry))) ⌝ }
+{
+    let mut p: usize = 0;
+    while p < 32 {
+        put_row(&mut *known, p, row(state, p));
+        p += 1;
+    }
+}
+
 // The known subscribers of all records.
-pub(crate) fn known(state: &[u8]) -> [u32; 1024]
+fn known(state: &[u8]) -> [u32; 1024]
     requires { ⌜ length (now state) ≡ 5120 ⌝ }
     ensures { λ r. ⌜ r ≡ tab 1024 (knownIn (now (state .entry))) ⌝ }
 {
     let mut r = [0u32; 1024];
-    let mut p: usize = 0;
-    while p < 32 {
-        row(state, &mut r, p);
-        p += 1;
-    }
+    fill_known(state, &mut r);
     r
 }
 

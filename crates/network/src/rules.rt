@@ -57,14 +57,15 @@ fn row_empty(known: &[u32; 1024], p: usize) -> bool
     requires { ⌜ p < 32 ⌝ }
     ensures { λ r. ⌜ r ≡ rowEmpty (now (known .entry)) p ⌝ }
 {
+    let mut same = true;
     let mut t: usize = 0;
     while t < 32 {
         if known[p * 32 + t] != 0 {
-            return false;
+            same = false;
         }
         t += 1;
     }
-    true
+    same
 }
 
 // Every peer of the set lists p.
@@ -88,14 +89,15 @@ fn row_known(known: &[u32; 1024], subscribers: &[u32; 32], listed: u32, p: usize
     requires { ⌜ p < 32 ⌝ }
     ensures { λ r. ⌜ r ≡ rowKnown (now (known .entry)) (now (subscribers .entry)) listed p ⌝ }
 {
+    let mut same = true;
     let mut t: usize = 0;
     while t < 32 {
         if known[p * 32 + t] != sets::meet32(subscribers[t], listed) {
-            return false;
+            same = false;
         }
         t += 1;
     }
-    true
+    same
 }
 
 // The fault of an absent record: 2 where it is not empty. Who else is present plays no part in it.

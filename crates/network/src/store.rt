@@ -1,7 +1,7 @@
 // The bytes of one record (specs/Storing.antt).
 ghost use mathlib.Core.Path.{_≡_};
-ghost use Prim.Native.Nat.{ℕ, _<_};
-ghost use lib.ListN.{length};
+ghost use Prim.Native.Nat.{ℕ, _+_, _*_, _<_};
+ghost use lib.ListN.{length, getD};
 ghost use Rattle.sets.specs.Set.{has, digit};
 ghost use Rattle.lists.specs.Tab.{tab};
 ghost use Rattle.network.specs.Storing.{putHead, putRow};
@@ -53,14 +53,28 @@ pub(crate) fn words(
     endian::put8(&mut *state, at + 24, seen);
 }
 
-// The known subscribers of record p.
-pub(crate) fn row(state: &mut [u8], known: &[u32; 1024], p: usize)
+// The known subscribers of p.
+pub(crate) fn row_of(known: &[u32; 1024], p: usize) -> [u32; 32]
+    requires { ⌜ p < 32 ⌝ }
+    ensures { λ r. ⌜ r ≡ tab 32 (λ (t : ℕ). getD (now (known .entry)) (p * 32 + t) 0) ⌝ }
+{
+    let mut r = [0u32; 32];
+    let mut t: usize = 0;
+    while t < 32 {
+        r[t] = known[p * 32 + t];
+        t += 1;
+    }
+    r
+}
+
+// The known subscribers of record p, passed by value.
+pub(crate) fn row(state: &mut [u8], row: [u32; 32], p: usize)
     requires { ⌜ (length (now state) ≡ 5120) × (p < 32) ⌝ }
-    ensures { λ r. ⌜ now (state .exit) ≡ putRow 32 (now (state .entry)) (now (known .entry)) p ⌝ }
+    ensures { λ r. ⌜ now (state .exit) ≡ putRow 32 (now (state .entry)) row p ⌝ }
 {
     let mut t: usize = 0;
     while t < 32 {
-        endian::put4(&mut *state, 160 * p + 32 + 4 * t, known[p * 32 + t]);
+        endian::put4(&mut *state, 160 * p + 32 + 4 * t, row[t]);
         t += 1;
     }
 }

@@ -11,10 +11,13 @@ use Rattle.drain.proofs.drain_all.Statement.{statement}
 use Rattle.drain.proofs.drain_all.Tie as tie
 
 abbrev Inv-loop : tie.InvT-loop
-Inv-loop pending₀ seen₀ known topics budget made₀ rounds₀ pending seen made rounds = Draining known topics pending₀ seen₀ budget pending seen made rounds
+Inv-loop pending₀ seen₀ known topics budget words made₀ rounds₀ pending seen made rounds = Draining known topics pending₀ seen₀ budget pending seen made rounds
 
 abbrev μ-loop : tie.MeasureT-loop
-μ-loop pending₀ seen₀ known topics budget made₀ rounds₀ pending seen made rounds = budget - made
+μ-loop pending₀ seen₀ known topics budget words made₀ rounds₀ pending seen made rounds = budget - made
+
+by-topic-requires : tie.Need-by-topic-requires Inv-loop μ-loop
+by-topic-requires c κs = search needs
 
 loop-holds : tie.Need-loop-holds Inv-loop μ-loop
 loop-holds c = lent-none _ _ _ _ _
@@ -31,15 +34,15 @@ sub-drain-round : tie.Need-sub-drain-round Inv-loop μ-loop
 sub-drain-round c = search needs
 
 drain-round-requires : tie.Need-drain-round-requires Inv-loop μ-loop
-drain-round-requires c κs = c .before .before .before .before .before .before .before .pre
+drain-round-requires c κs = (c .before .before .before .before .before .before .before .before .before .pre, c .before .before .before .before .before .before .before .before .by-topic .ensures)
 
 -- one round: within the budget, and something was forwarded
-fits : (c : tie.After-drain-round Inv-loop μ-loop) → c .before .before .before .before .before .before .before .loop .made + c .drain-round .result ≤ c .before .before .before .before .before .before .before .before .args .budget
-fits c = lent-fits (c .before .before .before .before .before .before .before .loop .inv) (c .before .before .before .before .waiting .ensures) (c .before .before .before .if1 .left) (c .drain-round .ensures .1) (c .drain-round .ensures .0)
+fits : (c : tie.After-drain-round Inv-loop μ-loop) → c .before .before .before .before .before .before .before .before .loop .made + c .drain-round .result ≤ c .before .before .before .before .before .before .before .before .before .before .args .budget
+fits c = lent-fits (c .before .before .before .before .before .before .before .before .loop .inv) (c .before .before .before .before .before .waiting .ensures) (c .before .before .before .before .if1 .left) (c .drain-round .ensures .1) (c .drain-round .ensures .0)
 
 moves : (c : tie.After-drain-round Inv-loop μ-loop) → 0 < c .drain-round .result
 moves c =
-    lent-moves (c .before .before .before .before .before .before .before .loop .inv) (c .before .before .before .before .waiting .ensures) (c .before .before .before .if1 .left) (c .drain-round .ensures .1) (c .drain-round .ensures .0)
+    lent-moves (c .before .before .before .before .before .before .before .before .loop .inv) (c .before .before .before .before .before .waiting .ensures) (c .before .before .before .before .if1 .left) (c .drain-round .ensures .1) (c .drain-round .ensures .0)
     (search needs)
 
 add-made : tie.Need-add-made Inv-loop μ-loop
@@ -53,7 +56,7 @@ loop-less c = omega (arith, fits (c .before), moves (c .before))
 
 loop-again : tie.Need-loop-again Inv-loop μ-loop
 loop-again c =
-    lent-round (c .before .before .before .before .before .before .before .before .loop .inv) (c .before .before .before .before .before .waiting .ensures) (c .before .before .before .before .if1 .left) (c .before .drain-round .ensures .1) (c .before .drain-round .ensures .0)
+    lent-round (c .before .before .before .before .before .before .before .before .before .loop .inv) (c .before .before .before .before .before .before .waiting .ensures) (c .before .before .before .before .before .if1 .left) (c .before .drain-round .ensures .1) (c .before .drain-round .ensures .0)
     (c .if2 .taken)
 
 loop-less-2 : tie.Need-loop-less-2 Inv-loop μ-loop
@@ -61,7 +64,7 @@ loop-less-2 c = omega (arith, fits (c .before), moves (c .before))
 
 loop-again-2 : tie.Need-loop-again-2 Inv-loop μ-loop
 loop-again-2 c =
-    lent-part (c .before .before .before .before .before .before .before .before .loop .inv) (c .before .before .before .before .before .waiting .ensures) (c .before .before .before .before .if1 .left) (c .before .drain-round .ensures .1) (c .before .drain-round .ensures .0)
+    lent-part (c .before .before .before .before .before .before .before .before .before .loop .inv) (c .before .before .before .before .before .before .waiting .ensures) (c .before .before .before .before .before .if1 .left) (c .before .drain-round .ensures .1) (c .before .drain-round .ensures .0)
     (c .if2 .left)
 
 waiting-requires-2 : tie.Need-waiting-requires-2 Inv-loop μ-loop
@@ -77,6 +80,7 @@ drain-all-spec =
     (tie.spec
     Inv-loop
     μ-loop
+    by-topic-requires
     loop-holds
     waiting-requires
     returns

@@ -11,11 +11,11 @@ use Rattle.drain.proofs.drain_listed.Statement.{statement}
 use Rattle.drain.proofs.drain_listed.Tie as tie
 
 abbrev Inv-loop : tie.InvT-loop
-Inv-loop pending₀ seen₀ known topics listed left made₀ p₀ pending seen made p =
+Inv-loop pending₀ seen₀ known topics words listed left made₀ p₀ pending seen made p =
     (p ≤ 32) × Peers (fwd (table topics [])) (ofMessages pending₀ seen₀ known) listed left p (ofMessages pending seen known) made
 
 abbrev μ-loop : tie.MeasureT-loop
-μ-loop pending₀ seen₀ known topics listed left made₀ p₀ pending seen made p = 32 - p
+μ-loop pending₀ seen₀ known topics words listed left made₀ p₀ pending seen made p = 32 - p
 
 loop-holds : tie.Need-loop-holds Inv-loop μ-loop
 loop-holds c = (omega arith, peers-none _ _ _ _)

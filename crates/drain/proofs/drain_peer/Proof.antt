@@ -7,30 +7,43 @@ use borrow.Author.Needs.{needs}
 use Rattle.floodnet.specs.View.{fwd}
 use Rattle.floodnet.specs.CodeForward.{table, ofMessages}
 use Rattle.drain.specs.Pairs.{Walk, walk-none, walk-more, walk-done}
+use Rattle.drain.specs.AtOnce.{all-at-once}
 use Rattle.drain.proofs.drain_peer.Statement.{statement}
 use Rattle.drain.proofs.drain_peer.Tie as tie
 
 abbrev Inv-loop : tie.InvT-loop
-Inv-loop pending₀ seen₀ known topics p todo left made₀ rest₀ pending seen made rest =
+Inv-loop pending₀ seen₀ known topics words p todo left all made₀ rest₀ pending seen made rest =
     Walk (fwd (table topics [])) (ofMessages pending₀ seen₀ known) (p .0) todo left (ofMessages pending seen known) rest made
 
 abbrev μ-loop : tie.MeasureT-loop
-μ-loop pending₀ seen₀ known topics p todo left made₀ rest₀ pending seen made rest = left - made
+μ-loop pending₀ seen₀ known topics words p todo left all made₀ rest₀ pending seen made rest = left - made
+
+returns : tie.Need-returns Inv-loop μ-loop
+returns c = walk-done _ _ (c .before .args .p .0) _ (c .before .args .left) (walk-none _ _ _ _ _ (search needs)) (inl (c .if1 .taken))
+
+members-requires : tie.Need-members-requires Inv-loop μ-loop
+members-requires c κs = search needs
+
+forward-set-requires : tie.Need-forward-set-requires Inv-loop μ-loop
+forward-set-requires c κs = c .before .before .before .before .before .pre
+
+returns-2 : tie.Need-returns-2 Inv-loop μ-loop
+returns-2 c = all-at-once (search needs) (c .before .before .before .before .members .ensures .0) (c .before .before .before .if2 .taken) (c .forward-set .ensures)
 
 loop-holds : tie.Need-loop-holds Inv-loop μ-loop
 loop-holds c = walk-none _ _ _ _ _ (search needs)
 
-returns : tie.Need-returns Inv-loop μ-loop
-returns c = walk-done _ _ _ _ _ (c .before .before .loop .inv) (inl (c .if1 .taken))
+returns-3 : tie.Need-returns-3 Inv-loop μ-loop
+returns-3 c = walk-done _ _ _ _ _ (c .before .before .loop .inv) (inl (c .if3 .taken))
 
 lowest64-requires : tie.Need-lowest64-requires Inv-loop μ-loop
 lowest64-requires c κs = search needs
 
-cast-t13 : tie.Need-cast-t13 Inv-loop μ-loop
-cast-t13 c = search needs
+cast-t22 : tie.Need-cast-t22 Inv-loop μ-loop
+cast-t22 c = search needs
 
 forward-requires : tie.Need-forward-requires Inv-loop μ-loop
-forward-requires c κs = (search needs, search needs, c .before .before .before .before .before .before .pre .1 _)
+forward-requires c κs = (search needs, search needs, c .before .before .before .before .before .before .before .before .before .pre .1 .0 _)
 
 rest64-requires : tie.Need-rest64-requires Inv-loop μ-loop
 rest64-requires c κs = search needs
@@ -47,8 +60,8 @@ loop-again c =
     walk-more _ _ _ _ _ (c .before .before .before .before .before .before .before .loop .inv) (search needs) (search needs)
     (c .before .before .before .before .lowest64 .ensures .0) (c .rest64 .ensures .0) (c .before .forward .ensures .1)
 
-returns-2 : tie.Need-returns-2 Inv-loop μ-loop
-returns-2 c = walk-done _ _ _ _ _ (c .before .loop .inv) (inr (omega arith))
+returns-4 : tie.Need-returns-4 Inv-loop μ-loop
+returns-4 c = walk-done _ _ _ _ _ (c .before .loop .inv) (inr (omega arith))
 
 pub drain-peer-spec : {M : Type 1} → statement M
 drain-peer-spec =
@@ -56,13 +69,17 @@ drain-peer-spec =
     (tie.spec
     Inv-loop
     μ-loop
-    loop-holds
     returns
+    members-requires
+    forward-set-requires
+    returns-2
+    loop-holds
+    returns-3
     lowest64-requires
-    cast-t13
+    cast-t22
     forward-requires
     rest64-requires
     add-made
     loop-less
     loop-again
-    returns-2)
+    returns-4)

@@ -1,34 +1,46 @@
 -- `engine::imaging::relay_image` meets its contract. Assumes nothing.
 use borrow.Author.Needs.{needs}
+use Rattle.broadcastnet.specs.CommitLaws.{imageNet-made}
 use Rattle.engine.specs.ImagingLaws.{image-refused, image-short, image-done}
+use Rattle.engine.specs.Lent.{looked-is, looked-net}
 use Rattle.engine.proofs.imaging.relay_image.Statement.{statement}
 use Rattle.engine.proofs.imaging.relay_image.Tie as tie
 
-read-requires : tie.Need-read-requires
-read-requires c κs = search needs
+open-requires : tie.Need-open-requires
+open-requires c κs = search needs
 
 returns : tie.Need-returns
-returns c = image-refused _ _ (c .before .before .read .ensures) (c .if1 .taken)
+returns c = image-refused _ _ (looked-is _ (c .before .before .«open» .ensures)) (c .if1 .taken)
 
 returns-2 : tie.Need-returns-2
-returns-2 c = let o = c .before .before .before in image-short _ _ (o .read .ensures) (c .before .if1 .left) (c .if2 .taken)
+returns-2 c = image-short _ _ (looked-is _ (c .before .before .before .«open» .ensures)) (c .before .if1 .left) (c .if2 .taken)
 
-image-requires : tie.Need-image-requires
-image-requires c κs = search needs
+underway-requires : tie.Need-underway-requires
+underway-requires c κs = search needs
 
-put-requires : tie.Need-put-requires
-put-requires c κs = search needs
+settled-requires : tie.Need-settled-requires
+settled-requires c κs = search needs
+
+save-requires : tie.Need-save-requires
+save-requires c κs = search needs
 
 same-length : tie.Need-same-length
 same-length c = search needs
 
 returns-3 : tie.Need-returns-3
 returns-3 c =
-    let p = c .before .before in
-    let i = p .before .before in
-    let e = i .before in
-    let o = e .before .before .before in
-    image-done _ _ _ (o .read .ensures) (e .before .if1 .left) (e .if2 .left) (i .image .ensures) (p .put .ensures)
+    let z = (c .before .before .before .before .before .before .before .before .before .before .before .before .before .if1 .left) in
+    image-done _ _ _ (looked-net _ (c .before .before .before .before .before .before .before .before .before .before .before .before .before .before .before .«open» .ensures) z) z (c .before .before .before .before .before .before .before .before .before .before .before .before .if2 .left) (imageNet-made _ (c .before .before .before .before .before .before .before .before .before .before .before .underway .ensures) (c .before .before .before .before .before .before .before .before .before .before .settled .ensures)) (c .before .before .save .ensures)
 
 pub relay-image-spec : {M : Type 1} → statement M
-relay-image-spec = tie.close (tie.spec read-requires returns returns-2 image-requires put-requires same-length returns-3)
+relay-image-spec =
+    tie.close
+    (tie.spec
+    open-requires
+    returns
+    returns-2
+    underway-requires
+    settled-requires
+    save-requires
+    same-length
+    returns-3)

@@ -1,22 +1,23 @@
 -- `network::load::row` meets its contract. Assumes nothing.
 use borrow.Author.Needs.{needs}
-use mathlib.Core.Path.{_≡_, _∙_}
-use Prim.Native.Nat.{_+_, _-_, _*_, _≤_}
+use mathlib.Core.Path.{_≡_}
+use Prim.Native.Nat.{ℕ, _+_, _-_, _≤_}
 use native.Mathlib.Omega.{arith}
-use Rattle.lists.specs.Tab.{Filled, filled-more}
-use Rattle.network.specs.State.{knownIn, word}
-use Rattle.network.specs.Layout.{filled-to, known-spot}
+use lib.ListN.{length-replicate}
+use Rattle.lists.specs.Tab.{Filled, filled-none, filled-more, filled-all}
+use Rattle.network.specs.State.{wordIn, word}
 use Rattle.network.proofs.load.row.Statement.{statement}
 use Rattle.network.proofs.load.row.Tie as tie
+use Rattle.endian.proofs.le4.Reads as le4-reads
 
 abbrev Inv-loop : tie.InvT-loop
-Inv-loop state known₀ p t₀ known t = (t ≤ 32) × Filled 1024 (knownIn state) (32 * p + t) known
+Inv-loop state p r₀ t₀ r t = (t ≤ 32) × Filled 32 (λ (u : ℕ). wordIn state p (8 + u)) t r
 
 abbrev μ-loop : tie.MeasureT-loop
-μ-loop state known₀ p t₀ known t = 32 - t
+μ-loop state p r₀ t₀ r t = 32 - t
 
 loop-holds : tie.Need-loop-holds Inv-loop μ-loop
-loop-holds c = (search needs, filled-to _ (c .before .pre .1 .1) (omega arith))
+loop-holds c = (search needs, filled-none 32 _ _ (length-replicate {A = ℕ} 32 0))
 
 mul-le4 : tie.Need-mul-le4 Inv-loop μ-loop
 mul-le4 c = search needs
@@ -33,17 +34,11 @@ mul-le4-2 c = search needs
 le4-requires : tie.Need-le4-requires Inv-loop μ-loop
 le4-requires c κs = search needs
 
-mul-known : tie.Need-mul-known Inv-loop μ-loop
-mul-known c = search needs
+mul-r : tie.Need-mul-r Inv-loop μ-loop
+mul-r c = search needs
 
-add-known : tie.Need-add-known Inv-loop μ-loop
-add-known c = search needs
-
-mul-known-2 : tie.Need-mul-known-2 Inv-loop μ-loop
-mul-known-2 c = search needs
-
-element-write-known : tie.Need-element-write-known Inv-loop μ-loop
-element-write-known c = search needs
+array-write-r : tie.Need-array-write-r Inv-loop μ-loop
+array-write-r c = search needs
 
 add-t : tie.Need-add-t Inv-loop μ-loop
 add-t c = search needs
@@ -53,14 +48,10 @@ loop-less c = search needs
 
 loop-again : tie.Need-loop-again Inv-loop μ-loop
 unfolding word
-loop-again c =
-    let a = c .before .before .before .before .args in
-    let l = c .before .before .loop in
-    let v = c .le4 .ensures ∙ known-spot (a .state .now) (a .p) (l .t) (search needs) in
-    (search needs, filled-to _ (filled-more (c .le4 .result) (l .inv .1) (search needs) v) (omega arith))
+loop-again c = (search needs, filled-more (c .le4 .result) (c .before .before .loop .inv .1) (search needs) (c .le4 .ensures))
 
 returns : tie.Need-returns Inv-loop μ-loop
-returns c = let e : c .before .loop .t ≡ 32 = omega arith in rw e at (c .before .loop .inv .1)
+returns c = let e : c .before .loop .t ≡ 32 = omega arith in filled-all (rw e at (c .before .loop .inv .1))
 
 pub row-spec : {M : Type 1} → statement M
 row-spec =
@@ -74,10 +65,8 @@ row-spec =
     add-le4-2
     mul-le4-2
     le4-requires
-    mul-known
-    add-known
-    mul-known-2
-    element-write-known
+    mul-r
+    array-write-r
     add-t
     loop-less
     loop-again

@@ -1,25 +1,26 @@
 -- `network::rules::row_empty` meets its contract. Assumes nothing.
 use borrow.Author.Needs.{needs}
-use mathlib.Core.Path.{_≡_, sym}
-use mathlib.Core.Bool.{true}
+use mathlib.Core.Path.{_≡_, sym, _∙_}
+use mathlib.Core.Logic.{⊎-elim}
 use Prim.Native.Nat.{ℕ, _+_, _-_, _*_, _≤_}
 use native.Mathlib.Omega.{arith}
 use lib.Dec.{eqb}
 use lib.ListN.{getD}
 use borrow.Author.Tests.{eq-eqb, ne-eqb}
-use Rattle.sets.specs.Any.{all, all-start, all-no}
-use Rattle.network.specs.Tests.{all-next, rowEmpty}
+use Rattle.sets.specs.Set.{meet}
+use Rattle.sets.specs.Any.{all, all-start}
+use Rattle.network.specs.Tests.{all-keep, all-lost, rowEmpty}
 use Rattle.network.proofs.rules.row_empty.Statement.{statement}
 use Rattle.network.proofs.rules.row_empty.Tie as tie
 
 abbrev Inv-loop : tie.InvT-loop
-Inv-loop known p t₀ t = (t ≤ 32) × (all t (λ (u : ℕ). eqb (getD known (p * 32 + u) 0) 0) ≡ true)
+Inv-loop known p same₀ t₀ same t = (t ≤ 32) × (same ≡ all t (λ (u : ℕ). eqb (getD known (p * 32 + u) 0) 0))
 
 abbrev μ-loop : tie.MeasureT-loop
-μ-loop known p t₀ t = 32 - t
+μ-loop known p same₀ t₀ same t = 32 - t
 
 loop-holds : tie.Need-loop-holds Inv-loop μ-loop
-loop-holds c = (search needs, sym (all-start _))
+loop-holds c = (search needs, all-start _)
 
 mul-if1 : tie.Need-mul-if1 Inv-loop μ-loop
 mul-if1 c = search needs
@@ -33,10 +34,6 @@ mul-if1-2 c = search needs
 element-copy-out-if1 : tie.Need-element-copy-out-if1 Inv-loop μ-loop
 element-copy-out-if1 c = search needs
 
-returns : tie.Need-returns Inv-loop μ-loop
-unfolding rowEmpty
-returns c = sym (all-no 32 _ (c .before .before .before .loop .t) (search needs) (ne-eqb _ _ (c .if1 .taken)))
-
 add-t : tie.Need-add-t Inv-loop μ-loop
 add-t c = search needs
 
@@ -44,11 +41,18 @@ loop-less : tie.Need-loop-less Inv-loop μ-loop
 loop-less c = search needs
 
 loop-again : tie.Need-loop-again Inv-loop μ-loop
-loop-again c = (search needs, all-next _ _ (c .before .before .before .loop .inv .1) (eq-eqb _ _ (c .if1 .left)))
+loop-again c =
+    let l = c .before .before .before .loop in (
+      search needs,
+      ⊎-elim
+          (λ w. w .1 ∙ all-lost (l .t) _ (ne-eqb _ _ (w .0 .taken)))
+          (λ w. w .1 ∙ all-keep (l .t) _ (l .inv .1) (eq-eqb _ _ (w .0 .left)))
+          (c .if1 .came),
+    )
 
-returns-2 : tie.Need-returns-2 Inv-loop μ-loop
+returns : tie.Need-returns Inv-loop μ-loop
 unfolding rowEmpty
-returns-2 c = let e : c .before .loop .t ≡ 32 = omega arith in sym (rw e at (c .before .loop .inv .1))
+returns c = let e : c .before .loop .t ≡ 32 = omega arith in rw e at (c .before .loop .inv .1)
 
 pub row-empty-spec : {M : Type 1} → statement M
 row-empty-spec =
@@ -61,8 +65,7 @@ row-empty-spec =
     add-if1
     mul-if1-2
     element-copy-out-if1
-    returns
     add-t
     loop-less
     loop-again
-    returns-2)
+    returns)

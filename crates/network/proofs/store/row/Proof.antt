@@ -8,12 +8,13 @@ use Rattle.endian.specs.Le.{length-putLe}
 use Rattle.network.specs.Storing.{putRow, putRow-more}
 use Rattle.network.proofs.store.row.Statement.{statement}
 use Rattle.network.proofs.store.row.Tie as tie
+use Rattle.endian.proofs.put4.Reads as put4-reads
 
 abbrev Inv-loop : tie.InvT-loop
-Inv-loop state₀ known p t₀ state t = (t ≤ 32) × ((length state ≡ 5120) × (state ≡ putRow t state₀ known p))
+Inv-loop state₀ p row t₀ state t = (t ≤ 32) × ((length state ≡ 5120) × (state ≡ putRow t state₀ row p))
 
 abbrev μ-loop : tie.MeasureT-loop
-μ-loop state₀ known p t₀ state t = 32 - t
+μ-loop state₀ p row t₀ state t = 32 - t
 
 loop-holds : tie.Need-loop-holds Inv-loop μ-loop
 unfolding putRow
@@ -34,14 +35,8 @@ add-put4-2 c = search needs
 mul-put4-3 : tie.Need-mul-put4-3 Inv-loop μ-loop
 mul-put4-3 c = search needs
 
-add-put4-3 : tie.Need-add-put4-3 Inv-loop μ-loop
-add-put4-3 c = search needs
-
-mul-put4-4 : tie.Need-mul-put4-4 Inv-loop μ-loop
-mul-put4-4 c = search needs
-
-element-copy-out-put4 : tie.Need-element-copy-out-put4 Inv-loop μ-loop
-element-copy-out-put4 c = search needs
+array-read-put4 : tie.Need-array-read-put4 Inv-loop μ-loop
+array-read-put4 c = search needs
 
 put4-requires : tie.Need-put4-requires Inv-loop μ-loop
 put4-requires c κs = search needs
@@ -53,10 +48,7 @@ loop-less : tie.Need-loop-less Inv-loop μ-loop
 loop-less c = search needs
 
 loop-again : tie.Need-loop-again Inv-loop μ-loop
-loop-again c =
-    let l = c .before .before .before .before .before .before .loop in
-    let w = c .before .before .put4 .ensures in
-    (search needs, (ap length w ∙ simp length-putLe (l .inv .1 .0), w ∙ putRow-more (l .t) _ _ _ (l .inv .1 .1)))
+loop-again c = let l = c .before .before .before .before .before .loop in let w = c .before .before .put4 .ensures in (search needs, (ap length w ∙ simp length-putLe (l .inv .1 .0), w ∙ putRow-more (l .t) _ _ _ (l .inv .1 .1)))
 
 same-length : tie.Need-same-length Inv-loop μ-loop
 same-length c = search needs
@@ -76,9 +68,7 @@ row-spec =
     mul-put4-2
     add-put4-2
     mul-put4-3
-    add-put4-3
-    mul-put4-4
-    element-copy-out-put4
+    array-read-put4
     put4-requires
     add-t
     loop-less

@@ -1,19 +1,24 @@
--- `network::put` meets its contract. Assumes nothing.
+-- `network::save` meets its contract. Assumes nothing.
 use borrow.Author.Needs.{needs}
 use mathlib.Core.Path.{_≡_}
 use Prim.Native.Nat.{_-_, _*_, _≤_}
 use native.Mathlib.Omega.{arith}
 use Rattle.lists.specs.Tab.{Filled, filled-none, filled-all}
+use Rattle.network.specs.Network.{mk}
 use Rattle.network.specs.State.{byteOf, bytesOf}
 use Rattle.network.specs.Storing.{filled-record}
-use Rattle.network.proofs.put.Statement.{statement}
-use Rattle.network.proofs.put.Tie as tie
+use Rattle.network.proofs.save.Statement.{statement}
+use Rattle.network.proofs.save.Tie as tie
+use Rattle.network.proofs.store.head.Reads as head-reads
+use Rattle.network.proofs.store.row.Reads as row-reads
+use Rattle.network.proofs.store.row_of.Reads as row-of-reads
+use Rattle.network.proofs.store.words.Reads as words-reads
 
 abbrev Inv-loop : tie.InvT-loop
-Inv-loop state₀ n p₀ state p = (p ≤ 32) × Filled 5120 (byteOf n) (160 * p) state
+Inv-loop present pubs subs neighbours pending seen known state₀ p₀ state p = (p ≤ 32) × Filled 5120 (byteOf (mk present pubs subs neighbours pending seen known)) (160 * p) state
 
 abbrev μ-loop : tie.MeasureT-loop
-μ-loop state₀ n p₀ state p = 32 - p
+μ-loop present pubs subs neighbours pending seen known state₀ p₀ state p = 32 - p
 
 loop-holds : tie.Need-loop-holds Inv-loop μ-loop
 loop-holds c = (search needs, filled-none 5120 _ _ (c .before .pre))
@@ -57,6 +62,9 @@ element-copy-out-words-5 c = search needs
 words-requires : tie.Need-words-requires Inv-loop μ-loop
 words-requires c κs = search needs
 
+row-of-requires : tie.Need-row-of-requires Inv-loop μ-loop
+row-of-requires c κs = search needs
+
 row-requires : tie.Need-row-requires Inv-loop μ-loop
 row-requires c κs = search needs
 
@@ -68,8 +76,11 @@ loop-less c = search needs
 
 loop-again : tie.Need-loop-again Inv-loop μ-loop
 loop-again c =
-    let l = c .before .before .before .before .before .before .before .before .before .before .before .before .before .before .before .before .before .loop in
-    (search needs, filled-record _ (l .p) (search needs) (l .inv .1) (c .before .before .before .before .before .before .before .before .before .before .before .before .before .before .before .head .ensures) (c .before .before .before .before .before .before .before .before .words .ensures) (c .before .before .row .ensures))
+    let r = c .before .before in
+    let w = r .before .before .before .before .before in
+    let h = w .before .before .before .before .before .before .before in
+    let l = h .before .before .loop in
+    (search needs, filled-record _ (l .p) (search needs) (l .inv .1) (h .head .ensures) (w .words .ensures) (r .before .row-of .ensures) (r .row .ensures))
 
 same-length : tie.Need-same-length Inv-loop μ-loop
 same-length c = search needs
@@ -78,8 +89,8 @@ returns : tie.Need-returns Inv-loop μ-loop
 unfolding bytesOf
 returns c = let e : c .before .loop .p ≡ 32 = omega arith in filled-all (rw e at (c .before .loop .inv .1))
 
-pub put-spec : {M : Type 1} → statement M
-put-spec =
+pub save-spec : {M : Type 1} → statement M
+save-spec =
     tie.close
     (tie.spec
     Inv-loop
@@ -98,6 +109,7 @@ put-spec =
     mul-words-5
     element-copy-out-words-5
     words-requires
+    row-of-requires
     row-requires
     add-p
     loop-less

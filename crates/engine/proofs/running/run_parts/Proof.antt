@@ -1,0 +1,90 @@
+-- `engine::running::run_parts` meets its contract. The loop keeps `Going`: the rest of the run, from here, ends as the whole does. Assumes nothing.
+use borrow.Author.Needs.{needs}
+use Prim.Native.Nat.{_-_, _*_, _/_, _^_, _<_}
+use lib.ListN.{length}
+use native.Mathlib.Omega.{arith}
+use Rattle.network.specs.Network.{mk}
+use Rattle.floodnet.specs.CodeForward.{table}
+use Rattle.engine.specs.Run.{tally, zeroTally, runFrom, runAll}
+use Rattle.engine.specs.RunSound.{reads-fit}
+use Rattle.engine.specs.Going.{Going, going-start, going-room}
+use Rattle.engine.specs.Looping.{ran-stop, ran-on, ran-end}
+use Rattle.engine.proofs.running.run_parts.Statement.{statement}
+use Rattle.engine.proofs.running.run_parts.Tie as tie
+
+abbrev Inv-loop : tie.InvT-loop
+Inv-loop present₀ pubs₀ subs₀ neighbours₀ pending₀ seen₀ known₀ topics origins events produced₀ forwards₀ deliveries₀ count place₀ present pubs subs neighbours pending seen known produced forwards deliveries place =
+    Going events (table topics origins) count place (mk present pubs subs neighbours pending seen known) (tally produced forwards deliveries)
+    (runFrom count events 0 (table topics origins) (mk present₀ pubs₀ subs₀ neighbours₀ pending₀ seen₀ known₀) zeroTally)
+
+abbrev μ-loop : tie.MeasureT-loop
+μ-loop present₀ pubs₀ subs₀ neighbours₀ pending₀ seen₀ known₀ topics origins events produced₀ forwards₀ deliveries₀ count place₀ present pubs subs neighbours pending seen known produced forwards deliveries place =
+    count - place
+
+-- from the place after the event was taken: the loop's head; and from there the start
+abbrev head : tie.After-event-at Inv-loop μ-loop → tie.At-loop Inv-loop μ-loop
+head c = c .before .before .before .before .before .before .before .before .before
+
+abbrev start : tie.At-loop Inv-loop μ-loop → tie.Start Inv-loop μ-loop
+start h = h .before .before
+
+-- the event bytes are fewer than 2 ^ 63
+small : (h : tie.At-loop Inv-loop μ-loop) → 32 * (length (start h .args .events .now) / 16) < 2 ^ 64
+small h = omega (arith, start h .good .1 .1 .1 .1 .1 .1 .1 .1 .1 .0 .1)
+
+loop-holds : tie.Need-loop-holds Inv-loop μ-loop
+loop-holds c = going-start _ _ _ _
+
+event-at-requires : tie.Need-event-at-requires Inv-loop μ-loop
+event-at-requires c κs = search needs
+
+turn-requires : tie.Need-turn-requires Inv-loop μ-loop
+turn-requires c κs =
+    let h = head c in
+    (rw (c .event-at .ensures) (reads-fit _ (λ i. h .before .shared-slice-known .given i .fits) _), start h .pre)
+
+returns : tie.Need-returns Inv-loop μ-loop
+unfolding runAll
+returns c =
+    let e = c .before .before in
+    ran-stop _ _ _ (head e .loop .inv) (e .before .before .before .before .before .before .before .before .loop-test .taken) (e .event-at .ensures) _ _ (c .before .turn .ensures) (c .if1 .taken)
+
+count-in-requires : tie.Need-count-in-requires Inv-loop μ-loop
+count-in-requires c κs =
+    let u = c .before .before .before .before in
+    let e = u .before in
+    going-room _ _ _ (head e .loop .inv) (e .before .before .before .before .before .before .before .before .loop-test .taken) (small (head e)) _ (u .turn .ensures .1 .1)
+
+add-place : tie.Need-add-place Inv-loop μ-loop
+add-place c =
+    let e = c .before .before .before .before .before .before in
+    record { fits = omega (arith, e .before .before .before .before .before .before .before .before .loop-test .taken, small (head e)) }
+
+loop-less : tie.Need-loop-less Inv-loop μ-loop
+loop-less c = let e = c .before .before .before .before .before .before in omega (arith, e .before .before .before .before .before .before .before .before .loop-test .taken)
+
+loop-again : tie.Need-loop-again Inv-loop μ-loop
+loop-again c =
+    let u = c .before .before .before .before .before in
+    let e = u .before in
+    ran-on _ _ _ (head e .loop .inv) (e .before .before .before .before .before .before .before .before .loop-test .taken) (e .event-at .ensures) _ _ (u .turn .ensures) (c .before .before .before .before .if1 .left) _ (c .count-in .ensures)
+
+returns-2 : tie.Need-returns-2 Inv-loop μ-loop
+unfolding runAll
+returns-2 c = ran-end _ _ _ (c .before .loop .inv) (c .loop-test .left)
+
+pub run-parts-spec : {M : Type 1} → statement M
+run-parts-spec =
+    tie.close
+    (tie.spec
+    Inv-loop
+    μ-loop
+    loop-holds
+    event-at-requires
+    turn-requires
+    returns
+    count-in-requires
+    add-place
+    loop-less
+    loop-again
+    returns-2)

@@ -1,0 +1,71 @@
+-- `network::open` meets its contract. Assumes nothing.
+use borrow.Author.Needs.{needs}
+use mathlib.Core.Path.{_≡_, _∙_}
+use Rattle.network.specs.Opening.{net-is, unsound-is, opens-1, opens-5, opens-0}
+use Rattle.network.proofs.open.Statement.{statement}
+use Rattle.network.proofs.open.Tie as tie
+
+returns : tie.Need-returns
+returns c = opens-1 _ _ (c .if1 .taken)
+
+words-requires : tie.Need-words-requires
+words-requires c κs = search needs
+
+ones-requires : tie.Need-ones-requires
+ones-requires c κs = search needs
+
+words-requires-2 : tie.Need-words-requires-2
+words-requires-2 c κs = search needs
+
+words-requires-3 : tie.Need-words-requires-3
+words-requires-3 c κs = search needs
+
+words-requires-4 : tie.Need-words-requires-4
+words-requires-4 c κs = search needs
+
+longs-requires : tie.Need-longs-requires
+longs-requires c κs = search needs
+
+longs-requires-2 : tie.Need-longs-requires-2
+longs-requires-2 c κs = search needs
+
+fill-known-requires : tie.Need-fill-known-requires
+fill-known-requires c κs = search needs
+
+lowest-fault-requires : tie.Need-lowest-fault-requires
+lowest-fault-requires c κs = search needs
+
+returns-2 : tie.Need-returns-2
+returns-2 c =
+    let f = c .before in
+    let k = f .before .before .before .before .before .before .before .before in
+    let o = k .before .before .before .before .before .before .before in
+    let w = o .before .before in
+    let n = net-is _ (w .words .ensures) (o .ones .ensures) (k .before .before .before .before .before .before .words2 .ensures) (k .before .before .before .before .before .words3 .ensures) (k .before .before .before .before .words4 .ensures) (k .before .before .before .longs .ensures) (k .before .before .longs2 .ensures) (k .fill-known .ensures) in
+    opens-5 _ _ _ (w .before .if1 .left) (f .lowest-fault .ensures ∙ unsound-is _ (w .words .ensures) n) (c .if2 .taken) n
+
+returns-3 : tie.Need-returns-3
+returns-3 c =
+    let f = c .before in
+    let k = f .before .before .before .before .before .before .before .before in
+    let o = k .before .before .before .before .before .before .before in
+    let w = o .before .before in
+    let n = net-is _ (w .words .ensures) (o .ones .ensures) (k .before .before .before .before .before .before .words2 .ensures) (k .before .before .before .before .before .words3 .ensures) (k .before .before .before .before .words4 .ensures) (k .before .before .before .longs .ensures) (k .before .before .longs2 .ensures) (k .fill-known .ensures) in
+    opens-0 _ _ _ (w .before .if1 .left) (f .lowest-fault .ensures ∙ unsound-is _ (w .words .ensures) n) (c .if2 .left) n
+
+pub open-spec : {M : Type 1} → statement M
+open-spec =
+    tie.close
+    (tie.spec
+    returns
+    words-requires
+    ones-requires
+    words-requires-2
+    words-requires-3
+    words-requires-4
+    longs-requires
+    longs-requires-2
+    fill-known-requires
+    lowest-fault-requires
+    returns-2
+    returns-3)

@@ -33,9 +33,10 @@ use Rattle.floodnet.specs.Forward.{moved, receivers, given, forwarded}
 use Rattle.floodnet.specs.Produce.{holders}
 use Rattle.floodnet.specs.SoundBase.{has-set, has-edit}
 use Rattle.floodnet.specs.View.{fwd}
-use Rattle.floodnet.specs.CodeForward.{table, ofMessages}
+use Rattle.floodnet.specs.CodeForward.{table, withMessages}
 use Rattle.floodnet.specs.CodeVisit.{edit-store, edit-then, Along, along-more}
 use Rattle.drain.specs.Pairs.{pairsOf}
+use Rattle.drain.specs.Lent.{Leads}
 
 -- ---- sets
 
@@ -305,7 +306,7 @@ has-more-other l p k q j d = go (ℕ-discrete q p) (decLt p (length l))
     go (yes e) (yes c) = rw (e, getD-set-same l p v 0 c) (has-with-other (getD l p 0) k j (λ (z : k ≡ j). d (sym z)))
     go (yes e) (no c) = ap (λ (x : List ℕ). has (getD x q 0) j) (set-out l p v (omega arith))
 
-module _ (e f g ts : List ℕ) (p : ℕ) where
+module _ (n : Network) (os e f g ts : List ℕ) (p : ℕ) where
   -- what is seen, and what is pending, once the messages of u are forwarded by p
   had : ℕ → List ℕ
   had u = set f p (union (getD f p 0) u)
@@ -357,7 +358,7 @@ module _ (e f g ts : List ℕ) (p : ℕ) where
 
     -- who gets it
     got : ℕ
-    got = receivers (ofMessages (wait u) (had u) g) (table ts []) (peer p) (message k)
+    got = receivers (withMessages n (wait u) (had u) g) (table ts os) (peer p) (message k)
 
     has-got : (q : ℕ) → q < length e → has got q ≡ has (near k) q && not (has (near k) q && ((has (getD (wait u) q 0) k && not (eqb q p && true)) || has (getD (had more) q 0) k))
     unfolding got near receivers holders moved
@@ -406,33 +407,33 @@ module _ (e f g ts : List ℕ) (p : ℕ) where
             )
             (has-wait u b q j l)
 
-    step : fwd (table ts []) (ofMessages (wait u) (had u) g) p k ≡ ofMessages (wait more) (had more) g
+    step : fwd (table ts os) (withMessages n (wait u) (had u) g) p k ≡ withMessages n (wait more) (had more) g
     unfolding fwd forwarded given moved got
-    step = ap₂ (λ (x y : List ℕ). ofMessages x y g) wait-more had-more
+    step = ap₂ (λ (x y : List ℕ). withMessages n x y g) wait-more had-more
 
   -- the first k of the messages of w
   run-pairs : (w : ℕ) → ((j : ℕ) → has w j ≡ true → near j < 2 ^ 32) → (k : ℕ) → k ≤ 64
-      → run (fwd (table ts [])) (ofMessages e f g) (pairsOf p w k) ≡ ofMessages (wait (setOf k (has w))) (had (setOf k (has w))) g
+      → run (fwd (table ts os)) (withMessages n e f g) (pairsOf p w k) ≡ withMessages n (wait (setOf k (has w))) (had (setOf k (has w))) g
   unfolding pairsOf run setOf withIf more
-  run-pairs w fit zero l = sym (ap₂ (λ (x y : List ℕ). ofMessages x y g) wait-none had-none)
+  run-pairs w fit zero l = sym (ap₂ (λ (x y : List ℕ). withMessages n x y g) wait-none had-none)
   run-pairs w fit (suc k) l = go (has w k) refl (run-pairs w fit k (omega arith))
     where
       u : ℕ
       u = setOf k (has w)
 
-      go : (c : Bool) → has w k ≡ c → run (fwd (table ts [])) (ofMessages e f g) (pairsOf p w k) ≡ ofMessages (wait u) (had u) g
-          → run (fwd (table ts [])) (ofMessages e f g) (pairsOf p w k ++ cond c (pair p k ∷ []) []) ≡ ofMessages (wait (withIf c k u)) (had (withIf c k u)) g
+      go : (c : Bool) → has w k ≡ c → run (fwd (table ts os)) (withMessages n e f g) (pairsOf p w k) ≡ withMessages n (wait u) (had u) g
+          → run (fwd (table ts os)) (withMessages n e f g) (pairsOf p w k ++ cond c (pair p k ∷ []) []) ≡ withMessages n (wait (withIf c k u)) (had (withIf c k u)) g
       go true h ih =
-          run-snoc (fwd (table ts [])) (ofMessages e f g) (pairsOf p w k) p k ∙ ap (λ (n : Network). fwd (table ts []) n p k) ih
+          run-snoc (fwd (table ts os)) (withMessages n e f g) (pairsOf p w k) p k ∙ ap (λ (x : Network). fwd (table ts os) x p k) ih
           ∙ step u k (lt-of-lt-of-le (setOf-lt k (has w)) (pow-mono {j = 64} (omega arith))) (omega arith) (has-setOf-out k (has w) k (omega arith)) (fit k h)
-      go false h ih = ap (λ (x : List Pair). run (fwd (table ts [])) (ofMessages e f g) x) (append-nil (pairsOf p w k)) ∙ ih
+      go false h ih = ap (λ (x : List Pair). run (fwd (table ts os)) (withMessages n e f g) x) (append-nil (pairsOf p w k)) ∙ ih
 
   -- all of them
-  leads-at-once : {e′ f′ : List ℕ} (w : ℕ) → w < 2 ^ 64 → AtOnce g ts e f p w e′ f′ → ofMessages e′ f′ g ≡ run (fwd (table ts [])) (ofMessages e f g) (pairsOf p w 64)
+  leads-at-once : {e′ f′ : List ℕ} (w : ℕ) → w < 2 ^ 64 → AtOnce g ts e f p w e′ f′ → withMessages n e′ f′ g ≡ run (fwd (table ts os)) (withMessages n e f g) (pairsOf p w 64)
   unfolding wait had near
   leads-at-once {e′} {f′} w b a =
-      ap₂ (λ (x y : List ℕ). ofMessages x y g) (a .pending ∙ ap (λ (x : List ℕ). spread g ts x p w (set e p (minus (getD e p 0) w))) (a .seen)) (a .seen)
-      ∙ sym (run-pairs w (a .fit) 64 (omega arith) ∙ ap (λ (x : ℕ). ofMessages (wait x) (had x) g) (setOf-has 64 w b))
+      ap₂ (λ (x y : List ℕ). withMessages n x y g) (a .pending ∙ ap (λ (x : List ℕ). spread g ts x p w (set e p (minus (getD e p 0) w))) (a .seen)) (a .seen)
+      ∙ sym (run-pairs w (a .fit) 64 (omega arith) ∙ ap (λ (x : ℕ). withMessages n (wait x) (had x) g) (setOf-has 64 w b))
 
 -- ---- how many they are
 
@@ -446,8 +447,8 @@ pairs-count p w (suc k) = length-append (pairsOf p w k) _ ∙ rw (pairs-count p 
     first false = refl
 
 -- Where the budget has them all, this is what the forwards of the peer answer and lead to.
-pub all-at-once : {e f g ts e′ f′ : List ℕ} {p w n left : ℕ} → w < 2 ^ 64 → n ≡ count 64 (has w) → n ≤ left → AtOnce g ts e f p w e′ f′
-    → (n ≡ length (take left (pairsOf p w 64))) × (ofMessages e′ f′ g ≡ run (fwd (table ts [])) (ofMessages e f g) (take left (pairsOf p w 64)))
-all-at-once {e} {f} {g} {ts} {e′} {f′} {p} {w} {n} {left} b h l a =
+pub all-at-once : {e f g ts e′ f′ : List ℕ} {p w k left : ℕ} → w < 2 ^ 64 → k ≡ count 64 (has w) → k ≤ left → AtOnce g ts e f p w e′ f′
+    → (k ≡ length (take left (pairsOf p w 64))) × Leads g ts e f (take left (pairsOf p w 64)) e′ f′
+all-at-once {e} {f} {g} {ts} {e′} {f′} {p} {w} {k} {left} b h l a =
     let whole : take left (pairsOf p w 64) ≡ pairsOf p w 64 = take-all left (pairsOf p w 64) (omega (arith, pairs-count p w 64)) in
-    rw whole (h ∙ sym (pairs-count p w 64), leads-at-once e f g ts p w b a)
+    rw whole (h ∙ sym (pairs-count p w 64), λ n os. leads-at-once n os e f g ts p w b a)

@@ -1,21 +1,22 @@
 -- The words of the contracts on lent arrays: the pending and seen messages of a network, lent to be changed, beside its known subscribers and
 -- the table's topics. What is not lent stays as it was. Assumes nothing.
 use mathlib.Core.Path.{_≡_}
-use mathlib.Core.List.{List, []}
+use mathlib.Core.List.{List}
 use Prim.Native.Nat.{ℕ}
 use Rattle.flooding.specs.Machine.{Pair, run}
 use Rattle.network.specs.declared.Network.{Network}
 use Rattle.network.specs.declared.Table.{Table}
-use Rattle.network.specs.Network.{mk, Rows}
+use Rattle.network.specs.Network.{Rows}
 use Rattle.network.specs.Sound.{Sound}
 use Rattle.floodnet.specs.View.{fwd}
-use Rattle.floodnet.specs.CodeForward.{table, ofMessages}
+use Rattle.floodnet.specs.CodeForward.{table, withMessages}
 use Rattle.drain.specs.declared.Drains.{Drains}
 use Rattle.drain.specs.Drain.{drainOf, quietOf}
 
--- a list of forwards leads from pending and seen messages e, f to e′, f′, by the known subscribers g and the topics ts
+-- a list of forwards leads from pending and seen messages e, f to e′, f′, by the known subscribers g and the topics ts, in every
+-- network and table that have them
 abbrev pub Leads : (g ts e f : List ℕ) → List Pair → (e′ f′ : List ℕ) → Type 0
-Leads g ts e f l e′ f′ = ofMessages e′ f′ g ≡ run (fwd (table ts [])) (ofMessages e f g) l
+Leads g ts e f l e′ f′ = (n : Network) (os : List ℕ) → withMessages n e′ f′ g ≡ run (fwd (table ts os)) (withMessages n e f g) l
 
 -- r, and the network at the end, are what the drain of n answers
 pub record Answers (b : Table) (budget : ℕ) (n last : Network) (r : Drains) : Type 0 where
@@ -27,5 +28,5 @@ pub record Answers (b : Table) (budget : ℕ) (n last : Network) (r : Drains) : 
 -- so it is of every sound network that has the lent arrays, with every table of accepted rows that has the topics
 abbrev pub DrainsTo : (g ts e f : List ℕ) → ℕ → (e′ f′ : List ℕ) → Drains → Type 0
 DrainsTo g ts e f budget e′ f′ r =
-    (present : ℕ) (pubs subs neighbours origins : List ℕ) → Sound (mk present pubs subs neighbours e f g) → Rows (table ts origins)
-    → Answers (table ts origins) budget (mk present pubs subs neighbours e f g) (mk present pubs subs neighbours e′ f′ g) r
+    (n : Network) (os : List ℕ) → Sound (withMessages n e f g) → Rows (table ts os)
+    → Answers (table ts os) budget (withMessages n e f g) (withMessages n e′ f′ g) r

@@ -9,11 +9,12 @@ use lib.ListN.{length, getD}
 use borrow.Author.Tests.{eqb-true}
 use Rattle.sets.specs.Bools.{ne-eqb}
 use Rattle.endian.specs.Le.{Bytes}
-use Rattle.network.specs.Network.{mk, Rows}
+use Rattle.network.specs.Network.{Rows}
 use Rattle.network.specs.Sound.{Sound}
 use Rattle.network.specs.State.{openOf, bytesOf}
 use Rattle.network.specs.Rows.{listOf}
 use Rattle.drain.specs.declared.Drains.{Drains}
+use Rattle.floodnet.specs.CodeForward.{withMessages}
 use Rattle.drain.specs.Lent.{DrainsTo}
 use Rattle.engine.specs.declared.Begun.{Begun}
 use Rattle.engine.specs.declared.Drained.{Drained}
@@ -76,9 +77,9 @@ drain-refused {g} s t budget e h k = (rw (← e, ne-eqb h) k, rw (← e, ne-eqb 
 -- it is drained
 pub drain-done : {g : Begun} {e f : List ℕ} {r : Drains} (s t now-s : List ℕ) (budget : ℕ) → Bytes s → g ≡ beginOf s t 0 → g .number ≡ 0
     → DrainsTo (g .network .known) (g .table .topics) (g .network .pending) (g .network .seen) budget e f r
-    → now-s ≡ bytesOf (mk (g .network .present) (g .network .pubs) (g .network .subs) (g .network .neighbours) e f (g .network .known))
+    → now-s ≡ bytesOf (withMessages (g .network) e f (g .network .known))
     → Ended s t budget (drained 0 0 (r .forwards) (r .rounds) (r .quiet)) now-s
 unfolding drainEndOf
 drain-done {g} s t now-s budget h k z d w =
-    let a = d (g .network .present) (g .network .pubs) (g .network .subs) (g .network .neighbours) (g .table .origins) (rw k (begun-sound s t h)) (rw k (begun-rows s t)) in
+    let a = d (g .network) (g .table .origins) (rw k (begun-sound s t h)) (rw k (begun-rows s t)) in
     (rw (← k, z, a .forwards, a .rounds, a .quiet), rw (← k, z, ← (a .end)) w)

@@ -5,7 +5,6 @@ ghost use Rattle.engine.specs.ForwardAlone.{forwardedBy};
 use crate::Checked;
 use crate::Forwarded;
 use crate::start;
-use events::Event;
 use network::Message;
 use network::Peer;
 
@@ -126,27 +125,22 @@ pub extern "C" fn relay_forward(state: &mut [u8], table: &[u8], peer: u8, messag
     if message > 63 {
         return refused(7, 0);
     }
-    let mut present = begun.present;
     let rows = begun.table;
     let topics = rows.topics;
-    let origins = rows.origins;
-    let turned = floodnet::step(
-        &mut present,
-        &mut pubs,
-        &mut subs,
-        &mut neighbours,
+    let turned = floodnet::turns::forward(
+        begun.present,
         &mut pending,
         &mut seen,
-        &mut known,
+        &known,
         &topics,
-        &origins,
-        Event::Forward(Peer(peer), Message(message)),
+        Peer(peer),
+        Message(message),
     );
     if turned.number != 0 {
         return refused(turned.number, 0);
     }
     network::save(
-        present,
+        begun.present,
         &pubs,
         &subs,
         &neighbours,

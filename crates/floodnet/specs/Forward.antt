@@ -9,16 +9,14 @@ use Rattle.network.specs.declared.Peer.{Peer}
 use Rattle.network.specs.declared.Message.{Message}
 use Rattle.network.specs.declared.Network.{Network}
 use Rattle.network.specs.declared.Table.{Table}
-use Rattle.network.specs.Network.{mk, pendingOf, seenOf, knownOf, topicOf}
+use Rattle.network.specs.Network.{withPending, withSeen, pendingOf, seenOf, knownOf, topicOf}
 use Rattle.floodnet.specs.Produce.{holders}
 
 -- "m moves from pending to seen at p"
 unfoldable pub moved : Network → Peer → Message → Network
 moved n p m =
-    mk (n .present) (n .pubs) (n .subs) (n .neighbours)
-    (set (n .pending) (p .0) (minus (pendingOf n p) (only (m .0))))
+    withSeen (withPending n (set (n .pending) (p .0) (minus (pendingOf n p) (only (m .0)))))
     (set (n .seen) (p .0) (union (seenOf n p) (only (m .0))))
-    (n .known)
 
 -- the known subscribers of m's topic at p that do not hold m, once it has moved
 unfoldable pub receivers : Network → Table → Peer → Message → ℕ
@@ -26,7 +24,7 @@ receivers n b p m = minus (knownOf n p (topicOf b m)) (holders (moved n p m) (kn
 
 -- m becomes pending at each peer of r
 unfoldable pub given : Network → ℕ → Message → Network
-given n r m = mk (n .present) (n .pubs) (n .subs) (n .neighbours) (edit (λ q w. withIf (has r q) (m .0) w) (n .pending)) (n .seen) (n .known)
+given n r m = withPending n (edit (λ q w. withIf (has r q) (m .0) w) (n .pending))
 
 unfoldable pub forwarded : Network → Table → Peer → Message → Network
 forwarded n b p m = given (moved n p m) (receivers n b p m) m

@@ -1,6 +1,5 @@
 -- Join and leave, from "both sides record" and "both sides forget" over a set of peers. Assumes nothing.
 use mathlib.Core.Bool.{Bool, true, false, not, _&&_}
-use mathlib.Core.List.{List}
 use Prim.Native.Nat.{ℕ, _/_, _%_}
 use lib.Dec.{eqb}
 use lib.ListN.{set}
@@ -8,7 +7,7 @@ use Rattle.sets.specs.Set.{has, union, minus, only, withIf, sift}
 use Rattle.lists.specs.Edit.{edit}
 use Rattle.network.specs.declared.Peer.{Peer}
 use Rattle.network.specs.declared.Network.{Network}
-use Rattle.network.specs.Network.{mk, peer, topic, subsOf, neighboursOf, subscribed}
+use Rattle.network.specs.Network.{withPresent, withPubs, withSubs, withNeighbours, withKnown, withAll, peer, topic, subsOf, neighboursOf, subscribed}
 use Rattle.floodnet.specs.Topics.{withoutIf}
 
 -- where b is true: w with s; w without s. And w where b is true, else nothing.
@@ -28,9 +27,7 @@ keepIf false w = 0
 -- p's topics, and p knows each of `who` for each of theirs.
 unfoldable pub linkUp : Network → Peer → ℕ → Network
 linkUp n p who =
-    mk (n .present) (n .pubs) (n .subs)
-    (edit (λ q w. withIf (has who q) (p .0) (unionIf (eqb q (p .0)) who w)) (n .neighbours))
-    (n .pending) (n .seen)
+    withKnown (withNeighbours n (edit (λ q w. withIf (has who q) (p .0) (unionIf (eqb q (p .0)) who w)) (n .neighbours)))
     (edit
     (λ i w. unionIf (eqb (i / 32) (p .0)) (sift 32 who (λ q. subscribed n (peer q) (topic (i % 32))))
     (withIf (has who (i / 32) && has (subsOf n p) (i % 32)) (p .0) w)) (n .known))
@@ -38,22 +35,20 @@ linkUp n p who =
 -- Both sides forget: p and each peer of `who` no longer list each other, nor know each other for any topic.
 unfoldable pub linkDown : Network → Peer → ℕ → Network
 linkDown n p who =
-    mk (n .present) (n .pubs) (n .subs)
-    (edit (λ q w. withoutIf (has who q) (p .0) (minusIf (eqb q (p .0)) who w)) (n .neighbours))
-    (n .pending) (n .seen)
+    withKnown (withNeighbours n (edit (λ q w. withoutIf (has who q) (p .0) (minusIf (eqb q (p .0)) who w)) (n .neighbours)))
     (edit (λ i w. minusIf (eqb (i / 32) (p .0)) who (withoutIf (has who (i / 32)) (p .0) w)) (n .known))
 
 -- "record becomes zero"
 unfoldable pub cleared : Network → Peer → Network
 cleared n p =
-    mk (minus (n .present) (only (p .0))) (set (n .pubs) (p .0) 0) (set (n .subs) (p .0) 0) (set (n .neighbours) (p .0) 0)
+    withAll n (minus (n .present) (only (p .0))) (set (n .pubs) (p .0) 0) (set (n .subs) (p .0) 0) (set (n .neighbours) (p .0) 0)
     (set (n .pending) (p .0) 0) (set (n .seen) (p .0) 0)
     (edit (λ i w. keepIf (not (eqb (i / 32) (p .0))) w) (n .known))
 
 -- p is present, with these topics
 unfoldable pub placed : Network → Peer → ℕ → ℕ → Network
 placed n p subs pubs =
-    mk (union (n .present) (only (p .0))) (set (n .pubs) (p .0) pubs) (set (n .subs) (p .0) subs) (n .neighbours) (n .pending) (n .seen) (n .known)
+    withSubs (withPubs (withPresent n (union (n .present) (only (p .0)))) (set (n .pubs) (p .0) pubs)) (set (n .subs) (p .0) subs)
 
 -- leave: "record becomes zero; neighbours drop the peer and its subscriptions"
 unfoldable pub left : Network → Peer → Network

@@ -21,7 +21,7 @@ use Rattle.lists.specs.Edit.{length-edit, getD-edit, getD-edit-out, edit-below}
 use Rattle.network.specs.declared.Peer.{Peer}
 use Rattle.network.specs.declared.Topic.{Topic}
 use Rattle.network.specs.declared.Network.{Network}
-use Rattle.network.specs.Network.{mk, peer, topic, subsOf, neighboursOf, knownOf, present, linked, subscribed, knows, Shaped}
+use Rattle.network.specs.Network.{withNeighbours, withKnown, peer, topic, subsOf, neighboursOf, knownOf, present, linked, subscribed, knows, Shaped}
 use Rattle.network.specs.Sound.{Sound}
 use Rattle.network.specs.SoundLaws.{linked-peer}
 use Rattle.floodnet.specs.Topics.{withoutIf}
@@ -158,7 +158,7 @@ linked-down-all {n} s p who a c = go (decLt (a .0) 32)
 
 -- n with these in their place
 abbrev relink : Network → List ℕ → List ℕ → Network
-relink n neighbours known = mk (n .present) (n .pubs) (n .subs) neighbours (n .pending) (n .seen) known
+relink n neighbours known = withKnown (withNeighbours n neighbours) known
 
 -- It keeps the shape, if they have it.
 relink-shaped : {n : Network} (neighbours known : List ℕ) → Shaped n → length neighbours ≡ 32 → length known ≡ 1024

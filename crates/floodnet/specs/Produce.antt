@@ -7,7 +7,7 @@ use Rattle.sets.specs.Set.{union, only, sift}
 use Rattle.network.specs.declared.Peer.{Peer}
 use Rattle.network.specs.declared.Message.{Message}
 use Rattle.network.specs.declared.Network.{Network}
-use Rattle.network.specs.Network.{mk, peer, pending, saw, pendingOf}
+use Rattle.network.specs.Network.{withPending, peer, pending, saw, pendingOf}
 
 -- those of the peers s that have m pending or seen
 unfoldable pub holders : Network → ℕ → Message → ℕ
@@ -19,4 +19,4 @@ isNew n m = eqb (holders n (n .present) m) 0
 
 -- produce: "message becomes pending at its origin" (p, by condition 10)
 unfoldable pub produced : Network → Peer → Message → Network
-produced n p m = mk (n .present) (n .pubs) (n .subs) (n .neighbours) (set (n .pending) (p .0) (union (pendingOf n p) (only (m .0)))) (n .seen) (n .known)
+produced n p m = withPending n (set (n .pending) (p .0) (union (pendingOf n p) (only (m .0))))

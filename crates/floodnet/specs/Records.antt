@@ -19,7 +19,7 @@ use Rattle.network.specs.declared.Peer.{Peer}
 use Rattle.network.specs.declared.Topic.{Topic}
 use Rattle.network.specs.declared.Message.{Message}
 use Rattle.network.specs.declared.Network.{Network}
-use Rattle.network.specs.Network.{mk, topic, neighboursOf, knownOf, present, publishes, subscribed, linked, pending, saw, knows, Shaped}
+use Rattle.network.specs.Network.{withAll, topic, neighboursOf, knownOf, present, publishes, subscribed, linked, pending, saw, knows, Shaped}
 use Rattle.network.specs.Sound.{Sound, Empty}
 use Rattle.floodnet.specs.Links.{keepIf, cleared, placed}
 use Rattle.floodnet.specs.SoundBase.{eqb-sym, has-set, set-below}
@@ -142,7 +142,7 @@ cleared-sound {n} s p free =
 pub cleared-absent : {n : Network} → Sound n → (p : Peer) → p .0 < 32 → present n p ≡ false → cleared n p ≡ n
 unfolding cleared keepIf
 cleared-absent {n} s p hp a =
-    λ j. mk (without-stranger (n .present) (p .0) a j) (stays (n .pubs) (e .pubs) j) (stays (n .subs) (e .subs) j) (stays (n .neighbours) (e .neighbours) j)
+    λ j. withAll n (without-stranger (n .present) (p .0) a j) (stays (n .pubs) (e .pubs) j) (stays (n .subs) (e .subs) j) (stays (n .neighbours) (e .neighbours) j)
     (stays (n .pending) (e .pending) j) (stays (n .seen) (e .seen) j) (sym (edit-none (λ i w. keepIf (not (eqb (i / 32) (p .0))) w) (n .known) λ i. at i (eqb (i / 32) (p .0)) refl) j)
   where
     e : Empty n p

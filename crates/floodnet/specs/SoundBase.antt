@@ -20,7 +20,7 @@ use Rattle.lists.specs.Edit.{edit, getD-edit, getD-edit-out}
 use Rattle.network.specs.declared.Peer.{Peer}
 use Rattle.network.specs.declared.Message.{Message}
 use Rattle.network.specs.declared.Network.{Network}
-use Rattle.network.specs.Network.{mk, message, present, pending, saw, Shaped}
+use Rattle.network.specs.Network.{withPending, withSeen, message, present, pending, saw, Shaped}
 use Rattle.network.specs.Sound.{Empty, Sound}
 
 -- Equal numbers, either way round.
@@ -89,7 +89,7 @@ has-edit-with r m l j x h = go (decLt j (length l))
 
 -- n with these in their place
 abbrev pub holding : Network → List ℕ → List ℕ → Network
-holding n waiting had = mk (n .present) (n .pubs) (n .subs) (n .neighbours) waiting had (n .known)
+holding n waiting had = withSeen (withPending n waiting) had
 
 -- It keeps the shape, if they have it.
 pub holding-shaped : {n : Network} (waiting had : List ℕ) → Shaped n → length waiting ≡ 32 → length had ≡ 32

@@ -8,7 +8,7 @@ use Rattle.sets.specs.Set.{has, union, minus, only, withIf}
 use Rattle.lists.specs.Edit.{edit}
 use Rattle.network.specs.declared.Peer.{Peer}
 use Rattle.network.specs.declared.Network.{Network}
-use Rattle.network.specs.Network.{mk, subsOf, neighboursOf}
+use Rattle.network.specs.Network.{withSubs, withKnown, subsOf, neighboursOf}
 
 -- w without i, where b is true
 unfoldable pub withoutIf : Bool → ℕ → ℕ → ℕ
@@ -25,10 +25,8 @@ struck who topics p known = edit (λ i w. withoutIf (has who (i / 32) && has top
 
 unfoldable pub subscribedTo : Network → Peer → ℕ → Network
 subscribedTo n p topics =
-    mk (n .present) (n .pubs) (set (n .subs) (p .0) (union (subsOf n p) topics)) (n .neighbours) (n .pending) (n .seen)
-    (noted (neighboursOf n p) topics p (n .known))
+    withKnown (withSubs n (set (n .subs) (p .0) (union (subsOf n p) topics))) (noted (neighboursOf n p) topics p (n .known))
 
 unfoldable pub unsubscribedFrom : Network → Peer → ℕ → Network
 unsubscribedFrom n p topics =
-    mk (n .present) (n .pubs) (set (n .subs) (p .0) (minus (subsOf n p) topics)) (n .neighbours) (n .pending) (n .seen)
-    (struck (neighboursOf n p) topics p (n .known))
+    withKnown (withSubs n (set (n .subs) (p .0) (minus (subsOf n p) topics))) (struck (neighboursOf n p) topics p (n .known))

@@ -21,7 +21,7 @@ use Rattle.lists.specs.Edit.{length-edit, edit-below, edit-none}
 use Rattle.network.specs.declared.Peer.{Peer}
 use Rattle.network.specs.declared.Topic.{Topic}
 use Rattle.network.specs.declared.Network.{Network}
-use Rattle.network.specs.Network.{mk, peer, topic, subsOf, neighboursOf, knownOf, present, linked, subscribed, knows, Shaped}
+use Rattle.network.specs.Network.{withSubs, withKnown, peer, topic, subsOf, neighboursOf, knownOf, present, linked, subscribed, knows, Shaped}
 use Rattle.network.specs.Sound.{Sound, Empty}
 use Rattle.network.specs.SoundLaws.{linked-other}
 use Rattle.floodnet.specs.Topics.{withoutIf, noted, struck, subscribedTo, unsubscribedFrom}
@@ -92,7 +92,7 @@ knows-less {n} s p topics q t c hq ht =
 
 -- n with these in their place
 abbrev retopic : Network → Peer → ℕ → List ℕ → Network
-retopic n p v known = mk (n .present) (n .pubs) (set (n .subs) (p .0) v) (n .neighbours) (n .pending) (n .seen) known
+retopic n p v known = withKnown (withSubs n (set (n .subs) (p .0) v)) known
 
 -- It keeps the shape, if they have it.
 retopic-shaped : {n : Network} (p : Peer) (v : ℕ) (known : List ℕ) → Shaped n → v < 2 ^ 32 → length known ≡ 1024
@@ -215,7 +215,7 @@ at-place n i = ap (λ (x : ℕ). getD (n .known) x 0) (spot-of i)
 pub subscribed-same : {n : Network} → Sound n → (p : Peer) (topics : ℕ) → union (subsOf n p) topics ≡ subsOf n p → subscribedTo n p topics ≡ n
 unfolding subscribedTo noted withIf
 subscribed-same {n} s p topics e =
-    ap₂ (λ (x y : List ℕ). mk (n .present) (n .pubs) x (n .neighbours) (n .pending) (n .seen) y)
+    ap₂ (λ (x y : List ℕ). withKnown (withSubs n x) y)
     (ap (set (n .subs) (p .0)) e ∙ set-getD (n .subs) (p .0) 0)
     (sym (edit-none _ (n .known) λ i. go i (either (linked n p (peer (i / 32)) && has topics (i % 32)))))
   where
@@ -235,7 +235,7 @@ subscribed-same {n} s p topics e =
 pub unsubscribed-same : {n : Network} → Sound n → (p : Peer) (topics : ℕ) → minus (subsOf n p) topics ≡ subsOf n p → unsubscribedFrom n p topics ≡ n
 unfolding unsubscribedFrom struck withoutIf
 unsubscribed-same {n} s p topics e =
-    ap₂ (λ (x y : List ℕ). mk (n .present) (n .pubs) x (n .neighbours) (n .pending) (n .seen) y)
+    ap₂ (λ (x y : List ℕ). withKnown (withSubs n x) y)
     (ap (set (n .subs) (p .0)) e ∙ set-getD (n .subs) (p .0) 0)
     (sym (edit-none _ (n .known) λ i. go i (either (linked n p (peer (i / 32)) && has topics (i % 32)))))
   where

@@ -1,12 +1,12 @@
 -- What `flooding` sees of a network with a message table: its peers, topics and messages are the numbers of these. Assumes nothing.
 use Prim.Native.Nat.{ℕ}
-use mathlib.Core.List.{List}
+use mathlib.Core.List.{[]}
 use Rattle.sets.specs.Set.{size}
 use Rattle.sets.specs.Sums.{sum}
 use Rattle.flooding.specs.Network.{Net}
 use Rattle.network.specs.declared.Network.{Network}
 use Rattle.network.specs.declared.Table.{Table}
-use Rattle.network.specs.Network.{peer, topic, message, pendingOf, present, pending, saw, knows, topicOf}
+use Rattle.network.specs.Network.{withPending, withSeen, peer, topic, message, pendingOf, present, pending, saw, knows, topicOf}
 use Rattle.floodnet.specs.Forward.{forwarded}
 
 -- the observations of n, with the topics of b
@@ -25,15 +25,8 @@ unfoldable pub fwd : Table → Network → ℕ → ℕ → Network
 fwd b n p m = forwarded n b (peer p) (message m)
 
 -- what no forward changes
-pub record Rest : Type 0 where
-  pub present : ℕ
-  pub pubs : List ℕ
-  pub subs : List ℕ
-  pub neighbours : List ℕ
-  pub known : List ℕ
-
-unfoldable pub rest : Network → Rest
-rest n = record { present = n .present; pubs = n .pubs; subs = n .subs; neighbours = n .neighbours; known = n .known }
+unfoldable pub rest : Network → Network
+rest n = withSeen (withPending n []) []
 
 -- the pending pairs of n: how many pairs of a peer and a message are pending
 unfoldable pub pairs : Network → ℕ

@@ -18,13 +18,13 @@ use Rattle.network.specs.declared.Peer.{Peer}
 use Rattle.network.specs.declared.Topic.{Topic}
 use Rattle.network.specs.declared.Network.{Network}
 use Rattle.network.specs.declared.Table.{Table}
-use Rattle.network.specs.Network.{peer, topic, message, pendingOf, spot, present, subscribed, linked, pending, saw, knows, topicOf, Shaped, Rows}
+use Rattle.network.specs.Network.{withPending, withSeen, peer, topic, message, pendingOf, spot, present, subscribed, linked, pending, saw, knows, topicOf, Shaped, Rows}
 use Rattle.network.specs.Sound.{Sound}
 use Rattle.network.specs.SoundLaws.{present-peer, pending-peer, pending-message, pending-present, saw-message, saw-present, knows-present}
 use Rattle.floodnet.specs.Forward.{forwarded, given, moved}
 use Rattle.floodnet.specs.SoundBase.{has-beyond}
 use Rattle.floodnet.specs.ForwardLaws.{forwarded-present, forwarded-knows, forwarded-pending, forwarded-saw, forwarded-sound}
-use Rattle.floodnet.specs.View.{view, fwd, Rest, rest}
+use Rattle.floodnet.specs.View.{view, fwd, rest}
 
 -- ---- the view, one observation at a time
 
@@ -128,15 +128,7 @@ fwd-sound s rows p m a = forwarded-sound s rows (peer p) (message m) a
 pub view-same : {n o : Network} (b : Table) → Shaped n → Shaped o → rest n ≡ rest o → view b n ≡ view b o → n ≡ o
 unfolding view rest
 view-same {n} {o} b s t r e =
-    λ i. record {
-      present = (r i) .present;
-      pubs = (r i) .pubs;
-      subs = (r i) .subs;
-      neighbours = (r i) .neighbours;
-      pending = waiting i;
-      seen = had i;
-      known = (r i) .known;
-    }
+    λ i. withSeen (withPending (r i) (waiting i)) (had i)
   where
     waiting : n .pending ≡ o .pending
     waiting =
@@ -155,7 +147,7 @@ network-machine {b} rows =
       sound = λ n s. view-sound b s;
       fwd-ok = λ n p m s a. fwd-sound s rows p m a;
       fwd-view = λ n p m s a. fwd-view b (s .shaped) p m a;
-      Rest = Rest;
+      Rest = Network;
       rest = rest;
       fwd-rest = λ n p m s a. fwd-rest b n p m;
       same = λ n o s t r e. view-same b (s .shaped) (t .shaped) r e;

@@ -4,7 +4,8 @@
 // files specs/Code*.antt are laws that the proofs of functions use.
 ghost use mathlib.Core.Path.{_≡_};
 ghost use Prim.Native.Nat.{_≤_};
-ghost use Rattle.network.specs.Network.{mk, Rows};
+ghost use Rattle.network.specs.declared.Network.{Network};
+ghost use Rattle.network.specs.Network.{withAll, Rows};
 ghost use Rattle.events.specs.Fits.{EventFits};
 ghost use Rattle.floodnet.specs.Step.{after, turnedOf};
 ghost use Rattle.floodnet.specs.CodeForward.{table};
@@ -15,7 +16,7 @@ mod rows; // rows.rt: loops over the rows of `known`
 pub mod messages; // messages.rt: what produce and forward do; the drain calls forward
 mod links; // links.rt: what subscribe, unsubscribe, leave and join do
 mod refusals; // refusals.rt: what the events ask
-mod turns; // turns.rt: an event of each kind, asked and done
+pub mod turns; // turns.rt: an event of each kind, asked and done; the single forward calls its own
 
 // What one event comes to: 0 or the number of the refusal; 1 for an accepted produce, 2 for an accepted forward, else 0; and
 // the deliveries of an accepted forward.
@@ -39,8 +40,8 @@ pub fn step(
     e: Event,
 ) -> Turned
     requires { ⌜ EventFits e × Rows (table (now topics) (now origins)) ⌝ }
-    ensures { λ r. ⌜ mk (now (present .exit)) (now (pubs .exit)) (now (subs .exit)) (now (neighbours .exit)) (now (pending .exit)) (now (seen .exit)) (now (known .exit)) ≡ after (mk (now (present .entry)) (now (pubs .entry)) (now (subs .entry)) (now (neighbours .entry)) (now (pending .entry)) (now (seen .entry)) (now (known .entry))) (table (now (topics .entry)) (now (origins .entry))) e ⌝ }
-    ensures { λ r. ⌜ r ≡ turnedOf (mk (now (present .entry)) (now (pubs .entry)) (now (subs .entry)) (now (neighbours .entry)) (now (pending .entry)) (now (seen .entry)) (now (known .entry))) (table (now (topics .entry)) (now (origins .entry))) e ⌝ }
+    ensures { λ r. ⌜ ((n : Network) → withAll n (now (present .exit)) (now (pubs .exit)) (now (subs .exit)) (now (neighbours .exit)) (now (pending .exit)) (now (seen .exit)) (now (known .exit)) ≡ after (withAll n (now (present .entry)) (now (pubs .entry)) (now (subs .entry)) (now (neighbours .entry)) (now (pending .entry)) (now (seen .entry)) (now (known .entry))) (table (now (topics .entry)) (now (origins .entry))) e) ⌝ }
+    ensures { λ r. ⌜ ((n : Network) → r ≡ turnedOf (withAll n (now (present .entry)) (now (pubs .entry)) (now (subs .entry)) (now (neighbours .entry)) (now (pending .entry)) (now (seen .entry)) (now (known .entry))) (table (now (topics .entry)) (now (origins .entry))) e) ⌝ }
     ensures { λ r. ⌜ r .deliveries ≤ 32 ⌝ }
 {
     match e {

@@ -1,13 +1,14 @@
 // What produce and forward do, on the arrays that they touch (specs/Produce.antt, specs/Forward.antt). A contract
-// is one equation between networks that have these arrays and nothing else; specs/CodeForward.antt lifts it to the whole
-// network.
+// is an equation of every network that has these arrays: `withPending n x` is the network n with x for its pending words.
 ghost use mathlib.Core.Path.{_≡_};
-ghost use mathlib.Core.List.{[]};
-ghost use Prim.Native.Nat.{_<_};
+ghost use mathlib.Core.List.{List};
+ghost use Prim.Native.Nat.{ℕ, _<_};
 ghost use lib.ListN.{getD};
+ghost use Rattle.network.specs.declared.Network.{Network};
+ghost use Rattle.network.specs.Network.{withPending};
 ghost use Rattle.floodnet.specs.Produce.{produced};
 ghost use Rattle.floodnet.specs.Forward.{receivers, forwarded};
-ghost use Rattle.floodnet.specs.CodeForward.{table, ofMessages};
+ghost use Rattle.floodnet.specs.CodeForward.{table, withMessages};
 use super::arrays;
 use network::Message;
 use network::Peer;
@@ -15,7 +16,7 @@ use network::Peer;
 // m becomes pending at p.
 pub(crate) fn produce(pending: &mut [u64; 32], p: Peer, m: Message)
     requires { ⌜ (p .0 < 32) × (m .0 < 64) ⌝ }
-    ensures { λ z. ⌜ ofMessages (now (pending .exit)) [] [] ≡ produced (ofMessages (now (pending .entry)) [] []) p m ⌝ }
+    ensures { λ z. ⌜ ((n : Network) → withPending n (now (pending .exit)) ≡ produced (withPending n (now (pending .entry))) p m) ⌝ }
 {
     let i = p.0 as usize;
     pending[i] = sets::with64(pending[i], m.0 as u32);
@@ -31,8 +32,8 @@ pub fn forward(
     m: Message,
 ) -> u32
     requires { ⌜ (p .0 < 32) × (m .0 < 64) × (getD (now topics) (m .0) 0 < 32) ⌝ }
-    ensures { λ r. ⌜ r ≡ receivers (ofMessages (now (pending .entry)) (now (seen .entry)) (now (known .entry))) (table (now (topics .entry)) []) p m ⌝ }
-    ensures { λ r. ⌜ ofMessages (now (pending .exit)) (now (seen .exit)) (now (known .entry)) ≡ forwarded (ofMessages (now (pending .entry)) (now (seen .entry)) (now (known .entry))) (table (now (topics .entry)) []) p m ⌝ }
+    ensures { λ r. ⌜ ((n : Network) (origins : List ℕ) → r ≡ receivers (withMessages n (now (pending .entry)) (now (seen .entry)) (now (known .entry))) (table (now (topics .entry)) origins) p m) ⌝ }
+    ensures { λ r. ⌜ ((n : Network) (origins : List ℕ) → withMessages n (now (pending .exit)) (now (seen .exit)) (now (known .entry)) ≡ forwarded (withMessages n (now (pending .entry)) (now (seen .entry)) (now (known .entry))) (table (now (topics .entry)) origins) p m) ⌝ }
 {
     let i = p.0 as usize;
     let b = m.0 as u32;

@@ -1,10 +1,10 @@
 // What the events ask (specs/Refusals.antt): the number of the first condition that fails, or 0. Each takes the arrays that
-// its conditions look at, and its contract speaks of a network that has these and nothing else.
+// its conditions look at, and its contract speaks of every network that has these.
 ghost use mathlib.Core.Path.{_≡_};
-ghost use mathlib.Core.List.{[]};
 ghost use Prim.Native.Nat.{_<_};
 ghost use lib.ListN.{getD};
-ghost use Rattle.network.specs.Network.{mk};
+ghost use Rattle.network.specs.declared.Network.{Network};
+ghost use Rattle.network.specs.Network.{withPresent, withPubs, withPending, withSeen};
 ghost use Rattle.floodnet.specs.Refusals.{refusalProduce, refusalForward, refusalTopics, refusalLeave, refusalJoin};
 ghost use Rattle.floodnet.specs.CodeForward.{table};
 use super::arrays;
@@ -23,7 +23,7 @@ pub(crate) fn of_produce(
     m: Message,
 ) -> u8
     requires { ⌜ (p .0 < 32) × (m .0 < 64) × (getD (now topics) (m .0) 0 < 32) ⌝ }
-    ensures { λ r. ⌜ r ≡ refusalProduce (mk present (now (pubs .entry)) [] [] (now (pending .entry)) (now (seen .entry)) []) (table (now (topics .entry)) (now (origins .entry))) p m ⌝ }
+    ensures { λ r. ⌜ ((n : Network) → r ≡ refusalProduce (withPresent (withPubs (withPending (withSeen n (now (seen .entry))) (now (pending .entry))) (now (pubs .entry))) present) (table (now (topics .entry)) (now (origins .entry))) p m) ⌝ }
 {
     if !sets::has32(present, p.0 as u32) {
         return 8;
@@ -43,7 +43,7 @@ pub(crate) fn of_produce(
 // Forward: 8, 13.
 pub(crate) fn of_forward(present: u32, pending: &[u64; 32], p: Peer, m: Message) -> u8
     requires { ⌜ (p .0 < 32) × (m .0 < 64) ⌝ }
-    ensures { λ r. ⌜ r ≡ refusalForward (mk present [] [] [] (now (pending .entry)) [] []) p m ⌝ }
+    ensures { λ r. ⌜ ((n : Network) → r ≡ refusalForward (withPresent (withPending n (now (pending .entry))) present) p m) ⌝ }
 {
     if !sets::has32(present, p.0 as u32) {
         return 8;
@@ -57,7 +57,7 @@ pub(crate) fn of_forward(present: u32, pending: &[u64; 32], p: Peer, m: Message)
 // Subscribe and unsubscribe: 8.
 pub(crate) fn of_topics(present: u32, p: Peer) -> u8
     requires { ⌜ p .0 < 32 ⌝ }
-    ensures { λ r. ⌜ r ≡ refusalTopics (mk present [] [] [] [] [] []) p ⌝ }
+    ensures { λ r. ⌜ ((n : Network) → r ≡ refusalTopics (withPresent n present) p) ⌝ }
 {
     if !sets::has32(present, p.0 as u32) {
         return 8;
@@ -68,7 +68,7 @@ pub(crate) fn of_topics(present: u32, p: Peer) -> u8
 // Leave: 8, 14.
 pub(crate) fn of_leave(present: u32, pending: &[u64; 32], p: Peer) -> u8
     requires { ⌜ p .0 < 32 ⌝ }
-    ensures { λ r. ⌜ r ≡ refusalLeave (mk present [] [] [] (now (pending .entry)) [] []) p ⌝ }
+    ensures { λ r. ⌜ ((n : Network) → r ≡ refusalLeave (withPresent (withPending n (now (pending .entry))) present) p) ⌝ }
 {
     if !sets::has32(present, p.0 as u32) {
         return 8;
@@ -82,7 +82,7 @@ pub(crate) fn of_leave(present: u32, pending: &[u64; 32], p: Peer) -> u8
 // Join: 9, 15, 16.
 pub(crate) fn of_join(present: u32, p: Peer, who: u32) -> u8
     requires { ⌜ p .0 < 32 ⌝ }
-    ensures { λ r. ⌜ r ≡ refusalJoin (mk present [] [] [] [] [] []) p who ⌝ }
+    ensures { λ r. ⌜ ((n : Network) → r ≡ refusalJoin (withPresent n present) p who) ⌝ }
 {
     if sets::has32(present, p.0 as u32) {
         return 9;

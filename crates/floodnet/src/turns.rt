@@ -1,22 +1,21 @@
-// An event of each kind: what it asks, and, if nothing refuses it, what it does. A contract `Took` (specs/CodeTurns.antt)
-// speaks of a network that has the arrays which the kind touches and nothing else; laws there lift it to the whole network.
+// An event of each kind: what it asks, and, if nothing refuses it, what it does. A contract `Stepped` (specs/CodeTurns.antt)
+// speaks of every network that has the arrays which the kind touches.
 ghost use mathlib.Core.Path.{_≡_};
-ghost use mathlib.Core.List.{[]};
+ghost use mathlib.Core.List.{List};
 ghost use Prim.Native.Nat.{ℕ, _<_};
 ghost use lib.ListN.{getD};
-ghost use Rattle.network.specs.Network.{mk};
-ghost use Rattle.floodnet.specs.Produce.{produced};
-ghost use Rattle.floodnet.specs.Forward.{forwarded, deliveries};
-ghost use Rattle.floodnet.specs.Topics.{subscribedTo, unsubscribedFrom};
-ghost use Rattle.floodnet.specs.Links.{left, joined};
-ghost use Rattle.floodnet.specs.Refusals.{refusalProduce, refusalForward, refusalTopics, refusalLeave, refusalJoin};
+ghost use Rattle.network.specs.declared.Network.{Network};
+ghost use Rattle.network.specs.declared.Table.{Table};
+ghost use Rattle.network.specs.Network.{withPresent, withPubs, withPending, withSeen, withAll};
 ghost use Rattle.floodnet.specs.Step.{turned};
-ghost use Rattle.floodnet.specs.CodeForward.{table};
-ghost use Rattle.floodnet.specs.CodeTurns.{Took};
+ghost use Rattle.floodnet.specs.CodeForward.{table, withMessages};
+ghost use Rattle.floodnet.specs.CodeLinks.{withLinks};
+ghost use Rattle.floodnet.specs.CodeTurns.{Stepped};
 use super::Turned;
 use super::links;
 use super::messages;
 use super::refusals;
+use events::Event;
 use events::Joining;
 use network::Message;
 use network::Peer;
@@ -55,7 +54,7 @@ pub(crate) fn produce(
     m: Message,
 ) -> Turned
     requires { ⌜ (p .0 < 32) × (m .0 < 64) × (getD (now topics) (m .0) 0 < 32) ⌝ }
-    ensures { λ r. ⌜ Took (λ n. refusalProduce n (table (now (topics .entry)) (now (origins .entry))) p m) 1 (λ n. 0) (λ n. produced n p m) (mk present (now (pubs .entry)) [] [] (now (pending .entry)) (now (seen .entry)) []) (mk present (now (pubs .entry)) [] [] (now (pending .exit)) (now (seen .entry)) []) r ⌝ }
+    ensures { λ r. ⌜ ((n : Network) → Stepped (withPresent (withPubs (withPending (withSeen n (now (seen .entry))) (now (pending .entry))) (now (pubs .entry))) present) (withPresent (withPubs (withPending (withSeen n (now (seen .entry))) (now (pending .exit))) (now (pubs .entry))) present) (table (now (topics .entry)) (now (origins .entry))) (Event.Produce p m) r) ⌝ }
 {
     let k = refusals::of_produce(present, pubs, pending, seen, topics, origins, p, m);
     if k != 0 {
@@ -65,7 +64,7 @@ pub(crate) fn produce(
     done(1, 0)
 }
 
-pub(crate) fn forward(
+pub fn forward(
     present: u32,
     pending: &mut [u64; 32],
     seen: &mut [u64; 32],
@@ -75,7 +74,7 @@ pub(crate) fn forward(
     m: Message,
 ) -> Turned
     requires { ⌜ (p .0 < 32) × (m .0 < 64) × (getD (now topics) (m .0) 0 < 32) ⌝ }
-    ensures { λ r. ⌜ Took (λ n. refusalForward n p m) 2 (λ n. deliveries n (table (now (topics .entry)) []) p m) (λ n. forwarded n (table (now (topics .entry)) []) p m) (mk present [] [] [] (now (pending .entry)) (now (seen .entry)) (now (known .entry))) (mk present [] [] [] (now (pending .exit)) (now (seen .exit)) (now (known .entry))) r ⌝ }
+    ensures { λ r. ⌜ ((n : Network) (origins : List ℕ) → Stepped (withPresent (withMessages n (now (pending .entry)) (now (seen .entry)) (now (known .entry))) present) (withPresent (withMessages n (now (pending .exit)) (now (seen .exit)) (now (known .entry))) present) (table (now (topics .entry)) origins) (Event.Forward p m) r) ⌝ }
 {
     let k = refusals::of_forward(present, pending, p, m);
     if k != 0 {
@@ -95,7 +94,7 @@ pub(crate) fn subscribe(
     topics: u32,
 ) -> Turned
     requires { ⌜ p .0 < 32 ⌝ }
-    ensures { λ r. ⌜ Took (λ n. refusalTopics n p) 0 (λ n. 0) (λ n. subscribedTo n p topics) (mk present [] (now (subs .entry)) (now (neighbours .entry)) [] [] (now (known .entry))) (mk present [] (now (subs .exit)) (now (neighbours .entry)) [] [] (now (known .exit))) r ⌝ }
+    ensures { λ r. ⌜ ((n : Network) (b : Table) → Stepped (withPresent (withLinks n (now (subs .entry)) (now (neighbours .entry)) (now (known .entry))) present) (withPresent (withLinks n (now (subs .exit)) (now (neighbours .entry)) (now (known .exit))) present) b (Event.Subscribe p topics) r) ⌝ }
 {
     let k = refusals::of_topics(present, p);
     if k != 0 {
@@ -114,7 +113,7 @@ pub(crate) fn unsubscribe(
     topics: u32,
 ) -> Turned
     requires { ⌜ p .0 < 32 ⌝ }
-    ensures { λ r. ⌜ Took (λ n. refusalTopics n p) 0 (λ n. 0) (λ n. unsubscribedFrom n p topics) (mk present [] (now (subs .entry)) (now (neighbours .entry)) [] [] (now (known .entry))) (mk present [] (now (subs .exit)) (now (neighbours .entry)) [] [] (now (known .exit))) r ⌝ }
+    ensures { λ r. ⌜ ((n : Network) (b : Table) → Stepped (withPresent (withLinks n (now (subs .entry)) (now (neighbours .entry)) (now (known .entry))) present) (withPresent (withLinks n (now (subs .exit)) (now (neighbours .entry)) (now (known .exit))) present) b (Event.Unsubscribe p topics) r) ⌝ }
 {
     let k = refusals::of_topics(present, p);
     if k != 0 {
@@ -135,7 +134,7 @@ pub(crate) fn leave(
     p: Peer,
 ) -> Turned
     requires { ⌜ p .0 < 32 ⌝ }
-    ensures { λ r. ⌜ Took (λ n. refusalLeave n p) 0 (λ n. 0) (λ n. left n p) (mk (now (present .entry)) (now (pubs .entry)) (now (subs .entry)) (now (neighbours .entry)) (now (pending .entry)) (now (seen .entry)) (now (known .entry))) (mk (now (present .exit)) (now (pubs .exit)) (now (subs .exit)) (now (neighbours .exit)) (now (pending .exit)) (now (seen .exit)) (now (known .exit))) r ⌝ }
+    ensures { λ r. ⌜ ((n : Network) (b : Table) → Stepped (withAll n (now (present .entry)) (now (pubs .entry)) (now (subs .entry)) (now (neighbours .entry)) (now (pending .entry)) (now (seen .entry)) (now (known .entry))) (withAll n (now (present .exit)) (now (pubs .exit)) (now (subs .exit)) (now (neighbours .exit)) (now (pending .exit)) (now (seen .exit)) (now (known .exit))) b (Event.Leave p) r) ⌝ }
 {
     let k = refusals::of_leave(*present, pending, p);
     if k != 0 {
@@ -157,7 +156,7 @@ pub(crate) fn join(
     j: Joining,
 ) -> Turned
     requires { ⌜ p .0 < 32 ⌝ }
-    ensures { λ r. ⌜ Took (λ n. refusalJoin n p (j .neighbours)) 0 (λ n. 0) (λ n. joined n p (j .subs) (j .pubs) (j .neighbours)) (mk (now (present .entry)) (now (pubs .entry)) (now (subs .entry)) (now (neighbours .entry)) (now (pending .entry)) (now (seen .entry)) (now (known .entry))) (mk (now (present .exit)) (now (pubs .exit)) (now (subs .exit)) (now (neighbours .exit)) (now (pending .exit)) (now (seen .exit)) (now (known .exit))) r ⌝ }
+    ensures { λ r. ⌜ ((n : Network) (b : Table) → Stepped (withAll n (now (present .entry)) (now (pubs .entry)) (now (subs .entry)) (now (neighbours .entry)) (now (pending .entry)) (now (seen .entry)) (now (known .entry))) (withAll n (now (present .exit)) (now (pubs .exit)) (now (subs .exit)) (now (neighbours .exit)) (now (pending .exit)) (now (seen .exit)) (now (known .exit))) b (Event.Join p j) r) ⌝ }
 {
     let who = j.neighbours;
     let k = refusals::of_join(*present, p, who);

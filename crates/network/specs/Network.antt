@@ -4,7 +4,7 @@
 --   topic, the known subscribers among its neighbours."
 use mathlib.Core.Path.{_≡_}
 use mathlib.Core.Bool.{Bool}
-use mathlib.Core.List.{List}
+use mathlib.Core.List.{List, []}
 use Prim.Native.Nat.{ℕ, _+_, _*_, _^_, _<_}
 use lib.ListN.{length, getD}
 use Rattle.sets.specs.Set.{has}
@@ -28,6 +28,35 @@ message i = record { 0 = i }
 abbrev pub mk : ℕ → List ℕ → List ℕ → List ℕ → List ℕ → List ℕ → List ℕ → Network
 mk present pubs subs neighbours pending seen known =
     record { present = present; pubs = pubs; subs = subs; neighbours = neighbours; pending = pending; seen = seen; known = known }
+
+-- a network to put parts into
+abbrev pub bare : Network
+bare = mk 0 [] [] [] [] [] []
+
+-- n with other parts in place of its own, one or all
+abbrev pub withPresent : Network → ℕ → Network
+withPresent n x = mk x (n .pubs) (n .subs) (n .neighbours) (n .pending) (n .seen) (n .known)
+
+abbrev pub withPubs : Network → List ℕ → Network
+withPubs n x = mk (n .present) x (n .subs) (n .neighbours) (n .pending) (n .seen) (n .known)
+
+abbrev pub withSubs : Network → List ℕ → Network
+withSubs n x = mk (n .present) (n .pubs) x (n .neighbours) (n .pending) (n .seen) (n .known)
+
+abbrev pub withNeighbours : Network → List ℕ → Network
+withNeighbours n x = mk (n .present) (n .pubs) (n .subs) x (n .pending) (n .seen) (n .known)
+
+abbrev pub withPending : Network → List ℕ → Network
+withPending n x = mk (n .present) (n .pubs) (n .subs) (n .neighbours) x (n .seen) (n .known)
+
+abbrev pub withSeen : Network → List ℕ → Network
+withSeen n x = mk (n .present) (n .pubs) (n .subs) (n .neighbours) (n .pending) x (n .known)
+
+abbrev pub withKnown : Network → List ℕ → Network
+withKnown n x = mk (n .present) (n .pubs) (n .subs) (n .neighbours) (n .pending) (n .seen) x
+
+abbrev pub withAll : Network → ℕ → List ℕ → List ℕ → List ℕ → List ℕ → List ℕ → List ℕ → Network
+withAll n present pubs subs neighbours pending seen known = mk present pubs subs neighbours pending seen known
 
 -- The words: peer p's pubs, subs, neighbours, pending and seen; and where its known subscribers of topic t stand.
 abbrev pub pubsOf : Network → Peer → ℕ

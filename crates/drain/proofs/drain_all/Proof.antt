@@ -1,11 +1,13 @@
 -- `drain::drain_all` meets its contract. The loop keeps that what is left of the drain is the drain of what is left. Assumes nothing.
 use mathlib.Core.Path.{sym, ap, _∙_}
 use mathlib.Core.Logic.{inl, inr}
+use mathlib.Core.List.{[]}
 use Prim.Native.Nat.{ℕ, _+_, _-_, _≤_, _<_}
 use native.Mathlib.Omega.{arith}
 use borrow.Author.Needs.{needs}
 use borrow.Author.Tests.{eq-eqb}
 use lib.Dec.{eqb}
+use Rattle.network.specs.Network.{bare}
 use Rattle.drain.specs.LentLaws.{Draining, lent-none, lent-done, lent-fits, lent-moves, lent-round, lent-part}
 use Rattle.drain.proofs.drain_all.Statement.{statement}
 use Rattle.drain.proofs.drain_all.Tie as tie
@@ -49,7 +51,7 @@ add-made : tie.Need-add-made Inv-loop μ-loop
 add-made c = omega (arith, fits c)
 
 add-rounds : tie.Need-add-rounds Inv-loop μ-loop
-add-rounds c = omega (arith, fits (c .before), moves (c .before))
+add-rounds c = omega (arith, fits (c .before), moves (c .before), c .before .before .before .before .before .before .before .before .before .loop .inv .going bare [] .fewer)
 
 loop-less : tie.Need-loop-less Inv-loop μ-loop
 loop-less c = omega (arith, fits (c .before), moves (c .before))

@@ -1,24 +1,26 @@
 -- `drain::drain_listed` meets its contract. The peers below p have had their turn, with the pairs that were pending when the round began. Assumes nothing.
 use mathlib.Core.Path.{_≡_, refl}
-use mathlib.Core.List.{[]}
-use Prim.Native.Nat.{_-_, _≤_}
+use mathlib.Core.List.{List, []}
+use Prim.Native.Nat.{ℕ, _-_, _≤_}
 use native.Mathlib.Omega.{arith}
 use borrow.Author.Needs.{needs}
+use Rattle.network.specs.declared.Network.{Network}
+use Rattle.network.specs.Network.{bare}
 use Rattle.floodnet.specs.View.{fwd}
-use Rattle.floodnet.specs.CodeForward.{table, ofMessages}
+use Rattle.floodnet.specs.CodeForward.{table, withMessages}
 use Rattle.drain.specs.Turns.{Peers, peers-none, peers-more}
 use Rattle.drain.proofs.drain_listed.Statement.{statement}
 use Rattle.drain.proofs.drain_listed.Tie as tie
 
 abbrev Inv-loop : tie.InvT-loop
 Inv-loop pending₀ seen₀ known topics words listed left made₀ p₀ pending seen made p =
-    (p ≤ 32) × Peers (fwd (table topics [])) (ofMessages pending₀ seen₀ known) listed left p (ofMessages pending seen known) made
+    (p ≤ 32) × ((n : Network) (os : List ℕ) → Peers (fwd (table topics os)) (withMessages n pending₀ seen₀ known) listed left p (withMessages n pending seen known) made)
 
 abbrev μ-loop : tie.MeasureT-loop
 μ-loop pending₀ seen₀ known topics words listed left made₀ p₀ pending seen made p = 32 - p
 
 loop-holds : tie.Need-loop-holds Inv-loop μ-loop
-loop-holds c = (omega arith, peers-none _ _ _ _)
+loop-holds c = (omega arith, λ n os. peers-none _ _ _ _)
 
 cast-i : tie.Need-cast-i Inv-loop μ-loop
 cast-i c = search needs
@@ -30,7 +32,9 @@ element-copy-out-todo : tie.Need-element-copy-out-todo Inv-loop μ-loop
 element-copy-out-todo c = search needs
 
 sub-drain-peer : tie.Need-sub-drain-peer Inv-loop μ-loop
-sub-drain-peer c = search needs
+sub-drain-peer c =
+    let v = c .before .before .before .before .loop .inv .1 bare [] in
+    search needs
 
 drain-peer-requires : tie.Need-drain-peer-requires Inv-loop μ-loop
 drain-peer-requires c κs = (search needs, c .before .before .before .before .before .pre)
@@ -39,7 +43,7 @@ add-made : tie.Need-add-made Inv-loop μ-loop
 add-made c =
     omega (
       arith,
-      peers-more _ _ _ _ _ (c .before .before .before .before .before .loop .inv .1) refl (c .drain-peer .ensures .1)
+      peers-more _ _ _ _ _ (c .before .before .before .before .before .loop .inv .1 bare []) refl (c .drain-peer .ensures .1 bare [])
           (c .drain-peer .ensures .0) .within,
     )
 
@@ -52,7 +56,7 @@ loop-less c = search needs
 loop-again : tie.Need-loop-again Inv-loop μ-loop
 loop-again c = (
   omega arith,
-  peers-more _ _ _ _ _ (c .before .before .before .before .before .loop .inv .1) refl (c .drain-peer .ensures .1)
+  λ n os. peers-more _ _ _ _ _ (c .before .before .before .before .before .loop .inv .1 n os) refl (c .drain-peer .ensures .1 n os)
       (c .drain-peer .ensures .0),
 )
 
@@ -60,7 +64,7 @@ returns : tie.Need-returns Inv-loop μ-loop
 returns c =
     let e : c .before .loop .p ≡ 32 = omega arith in
     let v = rw e at (c .before .loop .inv .1) in
-    (v .count, v .state)
+    (v bare [] .count, λ n os. v n os .state)
 
 pub drain-listed-spec : {M : Type 1} → statement M
 drain-listed-spec =

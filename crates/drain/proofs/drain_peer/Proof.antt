@@ -1,11 +1,14 @@
 -- `drain::drain_peer` meets its contract. The loop keeps what the pairs of `rest` still have to do. Assumes nothing.
+use mathlib.Core.Path.{_≡_}
 use mathlib.Core.Logic.{inl, inr}
-use mathlib.Core.List.{[]}
-use Prim.Native.Nat.{_-_}
+use mathlib.Core.List.{List, []}
+use Prim.Native.Nat.{ℕ, _-_}
 use native.Mathlib.Omega.{arith}
 use borrow.Author.Needs.{needs}
+use Rattle.network.specs.declared.Network.{Network}
+use Rattle.network.specs.Network.{bare}
 use Rattle.floodnet.specs.View.{fwd}
-use Rattle.floodnet.specs.CodeForward.{table, ofMessages}
+use Rattle.floodnet.specs.CodeForward.{table, withMessages}
 use Rattle.drain.specs.Pairs.{Walk, walk-none, walk-more, walk-done}
 use Rattle.drain.specs.AtOnce.{all-at-once}
 use Rattle.drain.proofs.drain_peer.Statement.{statement}
@@ -13,13 +16,16 @@ use Rattle.drain.proofs.drain_peer.Tie as tie
 
 abbrev Inv-loop : tie.InvT-loop
 Inv-loop pending₀ seen₀ known topics words p todo left all made₀ rest₀ pending seen made rest =
-    Walk (fwd (table topics [])) (ofMessages pending₀ seen₀ known) (p .0) todo left (ofMessages pending seen known) rest made
+    (n : Network) (os : List ℕ) → Walk (fwd (table topics os)) (withMessages n pending₀ seen₀ known) (p .0) todo left (withMessages n pending seen known) rest made
 
 abbrev μ-loop : tie.MeasureT-loop
 μ-loop pending₀ seen₀ known topics words p todo left all made₀ rest₀ pending seen made rest = left - made
 
 returns : tie.Need-returns Inv-loop μ-loop
-returns c = walk-done _ _ (c .before .args .p .0) _ (c .before .args .left) (walk-none _ _ _ _ _ (search needs)) (inl (c .if1 .taken))
+returns c =
+    let a = c .before .args in
+    (walk-done (fwd (table (a .topics .now) [])) bare (a .p .0) _ (a .left) (walk-none _ _ _ _ _ (search needs)) (inl (c .if1 .taken)) .0,
+    λ n os. walk-done _ _ (a .p .0) _ (a .left) (walk-none _ _ _ _ _ (search needs)) (inl (c .if1 .taken)) .1)
 
 members-requires : tie.Need-members-requires Inv-loop μ-loop
 members-requires c κs = search needs
@@ -31,10 +37,11 @@ returns-2 : tie.Need-returns-2 Inv-loop μ-loop
 returns-2 c = all-at-once (search needs) (c .before .before .before .before .members .ensures .0) (c .before .before .before .if2 .taken) (c .forward-set .ensures)
 
 loop-holds : tie.Need-loop-holds Inv-loop μ-loop
-loop-holds c = walk-none _ _ _ _ _ (search needs)
+loop-holds c = λ n os. walk-none _ _ _ _ _ (search needs)
 
 returns-3 : tie.Need-returns-3 Inv-loop μ-loop
-returns-3 c = walk-done _ _ _ _ _ (c .before .before .loop .inv) (inl (c .if3 .taken))
+returns-3 c =
+    (walk-done _ _ _ _ _ (c .before .before .loop .inv bare []) (inl (c .if3 .taken)) .0, λ n os. walk-done _ _ _ _ _ (c .before .before .loop .inv n os) (inl (c .if3 .taken)) .1)
 
 lowest64-requires : tie.Need-lowest64-requires Inv-loop μ-loop
 lowest64-requires c κs = search needs
@@ -57,11 +64,14 @@ loop-less c = search needs
 loop-again : tie.Need-loop-again Inv-loop μ-loop
 unfolding fwd
 loop-again c =
-    walk-more _ _ _ _ _ (c .before .before .before .before .before .before .before .loop .inv) (search needs) (search needs)
-    (c .before .before .before .before .lowest64 .ensures .0) (c .rest64 .ensures .0) (c .before .forward .ensures .1)
+    λ n os. walk-more _ _ _ _ _ (c .before .before .before .before .before .before .before .loop .inv n os) (search needs) (search needs)
+    (c .before .before .before .before .lowest64 .ensures .0) (c .rest64 .ensures .0) (c .before .forward .ensures .1 n os)
 
 returns-4 : tie.Need-returns-4 Inv-loop μ-loop
-returns-4 c = walk-done _ _ _ _ _ (c .before .loop .inv) (inr (omega arith))
+returns-4 c =
+    let v = c .before .loop .inv bare [] in
+    let e : c .before .loop .made ≡ c .before .before .before .before .before .args .left = omega arith in
+    (walk-done _ _ _ _ _ v (inr e) .0, λ n os. walk-done _ _ _ _ _ (c .before .loop .inv n os) (inr e) .1)
 
 pub drain-peer-spec : {M : Type 1} → statement M
 drain-peer-spec =

@@ -1,7 +1,10 @@
 -- `floodnet::step` meets its contract. Assumes nothing.
 use borrow.Author.Needs.{needs}
+use mathlib.Core.Path.{refl}
+use Rattle.network.specs.Network.{withPubs, withSubs, withNeighbours, withPending, withSeen, withKnown}
 use Rattle.events.specs.Fits.{EventFits}
-use Rattle.floodnet.specs.CodeTurns.{fits-as, stepped-as, step-skip, step-produce, step-forward, step-subscribe, step-unsubscribe, step-leave, step-join}
+use Rattle.floodnet.specs.Step.{refusal, effect, kindOf, deliveriesOf}
+use Rattle.floodnet.specs.CodeTurns.{fits-as, stepped-as, stepped-done}
 use Rattle.floodnet.proofs.step.Statement.{statement}
 use Rattle.floodnet.proofs.step.Tie as tie
 
@@ -54,25 +57,26 @@ unfolding EventFits
 join-requires c κs = (fits-as (c .before .before .before .before .before .before .before .before .e6 .given .1) (c .before .before .before .before .before .before .before .before .before .before .pre .0)) .0
 
 returns : tie.Need-returns
-returns c = stepped-as _ _ _ (c .before .enum-told .given .1) (step-skip _ _ _ _ _ _ _ _ _ _ (c .done .ensures))
+unfolding refusal effect kindOf deliveriesOf
+returns c = stepped-as (c .before .enum-told .given .1) (λ n. stepped-done 0 refl refl refl (c .done .ensures) refl (search needs))
 
 returns-2 : tie.Need-returns-2
-returns-2 c = stepped-as _ _ _ (c .before .before .before .before .before .before .e .given .1) (step-produce _ _ _ _ _ _ _ _ _ _ _ _ _ (c .produce .ensures))
+returns-2 c = stepped-as (c .before .before .before .before .before .before .e .given .1) (λ n. c .produce .ensures (withKnown (withNeighbours (withSubs n _) _) _))
 
 returns-3 : tie.Need-returns-3
-returns-3 c = stepped-as _ _ _ (c .before .before .before .before .before .before .e2 .given .1) (step-forward _ _ _ _ _ _ _ _ _ _ _ _ _ _ (c .forward .ensures))
+returns-3 c = stepped-as (c .before .before .before .before .before .before .e2 .given .1) (λ n. c .forward .ensures (withNeighbours (withSubs (withPubs n _) _) _) _)
 
 returns-4 : tie.Need-returns-4
-returns-4 c = stepped-as _ _ _ (c .before .before .before .before .before .before .e3 .given .1) (step-subscribe _ _ _ _ _ _ _ _ _ _ _ _ _ _ (c .subscribe .ensures))
+returns-4 c = stepped-as (c .before .before .before .before .before .before .e3 .given .1) (λ n. c .subscribe .ensures (withSeen (withPending (withPubs n _) _) _) _)
 
 returns-5 : tie.Need-returns-5
-returns-5 c = stepped-as _ _ _ (c .before .before .before .before .before .before .e4 .given .1) (step-unsubscribe _ _ _ _ _ _ _ _ _ _ _ _ _ _ (c .unsubscribe .ensures))
+returns-5 c = stepped-as (c .before .before .before .before .before .before .e4 .given .1) (λ n. c .unsubscribe .ensures (withSeen (withPending (withPubs n _) _) _) _)
 
 returns-6 : tie.Need-returns-6
-returns-6 c = stepped-as _ _ _ (c .before .before .before .before .before .before .before .before .before .e5 .given .1) (step-leave _ _ _ _ _ (c .leave .ensures))
+returns-6 c = stepped-as (c .before .before .before .before .before .before .before .before .before .e5 .given .1) (λ n. c .leave .ensures n _)
 
 returns-7 : tie.Need-returns-7
-returns-7 c = stepped-as _ _ _ (c .before .before .before .before .before .before .before .before .before .e6 .given .1) (step-join _ _ _ _ _ _ (c .join .ensures))
+returns-7 c = stepped-as (c .before .before .before .before .before .before .before .before .before .e6 .given .1) (λ n. c .join .ensures n _)
 
 pub step-spec : {M : Type 1} → statement M
 step-spec =

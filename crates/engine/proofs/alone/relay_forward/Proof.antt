@@ -1,6 +1,8 @@
 -- `engine::alone::relay_forward` meets its contract. Assumes nothing.
 use borrow.Author.Needs.{needs}
-use Rattle.engine.specs.ForwardAlone.{forward-fits, forward-begun, forward-peer, forward-message, forward-refused, forward-done}
+use native.Mathlib.Omega.{arith}
+use Rattle.network.specs.Network.{bare, withPubs, withSubs, withNeighbours}
+use Rattle.engine.specs.ForwardAlone.{forward-begun, forward-peer, forward-message, forward-refused, forward-done}
 use Rattle.engine.specs.Lent.{started, started-rows, started-long}
 use Rattle.engine.proofs.alone.relay_forward.Statement.{statement}
 use Rattle.engine.proofs.alone.relay_forward.Tie as tie
@@ -35,8 +37,12 @@ same-length-3 c = search needs
 returns-3 : tie.Need-returns-3
 returns-3 c = forward-message _ _ _ _ (c .before .before .before .before .before .start .ensures) (c .refused3 .ensures) (c .before .before .before .if1 .left) (c .before .before .if2 .left) (c .before .if3 .taken)
 
-step-requires : tie.Need-step-requires
-step-requires c κs = (forward-fits _ _ (c .before .before .before .before .before .before .before .before .before .before .before .before .before .if2 .left) (c .before .before .before .before .before .before .before .before .before .before .before .before .if3 .left), started-rows _ _ _ (c .before .before .before .before .before .before .before .before .before .before .before .before .before .before .before .before .start .result) _ (c .before .before .before .before .before .before .before .before .before .before .before .before .before .before .before .before .start .ensures))
+forward-requires : tie.Need-forward-requires
+forward-requires c κs =
+    let third = c .before .before .before .before .before .before in
+    let at = third .before .before .before .before in
+    let rows = started-rows _ _ _ (at .start .result) _ (at .start .ensures) in
+    (omega (arith, third .before .if2 .left), omega (arith, third .if3 .left), rows .topics-fit _)
 
 refused-requires-4 : tie.Need-refused-requires-4
 refused-requires-4 c κs = search needs
@@ -46,19 +52,31 @@ same-length-4 c = search needs
 
 returns-4 : tie.Need-returns-4
 returns-4 c =
-    let z = (c .before .before .before .before .before .before .before .before .before .before .before .before .before .before .before .before .before .before .if1 .left) in
-    forward-refused _ _ _ _ (started _ _ _ (c .before .before .before .before .before .before .before .before .before .before .before .before .before .before .before .before .before .before .before .before .start .result) _ (c .before .before .before .before .before .before .before .before .before .before .before .before .before .before .before .before .before .before .before .before .start .ensures) z) (c .refused4 .ensures) z (c .before .before .before .before .before .before .before .before .before .before .before .before .before .before .before .before .before .if2 .left) (c .before .before .before .before .before .before .before .before .before .before .before .before .before .before .before .before .if3 .left) (c .before .before .before .step .ensures .1 .0) (c .before .if4 .taken)
+    let sent = c .before .before .before in
+    let third = sent .before .before .before .before .before .before .before in
+    let z = third .before .before .if1 .left in
+    let at = third .before .before .before .before in
+    forward-refused _ _ _ _ (started _ _ _ (at .start .result) _ (at .start .ensures) z) (c .refused4 .ensures) z (third .before .if2 .left) (third .if3 .left)
+    (sent .forward .ensures (withPubs (withSubs (withNeighbours bare _) _) _) (at .start .result .table .origins) .answer) (c .before .if4 .taken)
 
 save-requires : tie.Need-save-requires
-save-requires c κs = started-long _ _ _ (c .before .before .before .before .before .before .before .before .before .before .before .before .before .before .before .before .before .before .before .before .before .before .before .before .before .before .start .result) _ (c .before .before .before .before .before .before .before .before .before .before .before .before .before .before .before .before .before .before .before .before .before .before .before .before .before .before .start .ensures) (c .before .before .before .before .before .before .before .before .before .before .before .before .before .before .before .before .before .before .before .before .before .before .before .before .if1 .left)
+save-requires c κs =
+    let third = c .before .before .before .before .before .before .before .before .before .before .before .before .before .before .before .before in
+    let at = third .before .before .before .before in
+    started-long _ _ _ (at .start .result) _ (at .start .ensures) (third .before .before .if1 .left)
 
 same-length-5 : tie.Need-same-length-5
 same-length-5 c = search needs
 
 returns-5 : tie.Need-returns-5
 returns-5 c =
-    let z = (c .before .before .before .before .before .before .before .before .before .before .before .before .before .before .before .before .before .before .before .before .before .before .before .before .before .before .before .if1 .left) in
-    forward-done _ _ _ _ (started _ _ _ (c .before .before .before .before .before .before .before .before .before .before .before .before .before .before .before .before .before .before .before .before .before .before .before .before .before .before .before .before .before .start .result) _ (c .before .before .before .before .before .before .before .before .before .before .before .before .before .before .before .before .before .before .before .before .before .before .before .before .before .before .before .before .before .start .ensures) z) z (c .before .before .before .before .before .before .before .before .before .before .before .before .before .before .before .before .before .before .before .before .before .before .before .before .before .before .if2 .left) (c .before .before .before .before .before .before .before .before .before .before .before .before .before .before .before .before .before .before .before .before .before .before .before .before .before .if3 .left) (c .before .before .before .before .before .before .before .before .before .before .before .before .step .ensures .1 .0) (c .before .before .before .before .before .before .before .before .before .before .before .before .step .ensures .0) (c .before .before .before .before .before .before .before .before .before .before .if4 .left) (c .before .before .save .ensures)
+    let sent = c .before .before .before .before .before .before .before .before .before .before .before .before in
+    let third = sent .before .before .before .before .before .before .before in
+    let z = third .before .before .if1 .left in
+    let at = third .before .before .before .before in
+    let done = sent .forward .ensures (withPubs (withSubs (withNeighbours bare _) _) _) (at .start .result .table .origins) in
+    forward-done _ _ _ _ (started _ _ _ (at .start .result) _ (at .start .ensures) z) z (third .before .if2 .left) (third .if3 .left) (done .answer) (done .state)
+    (c .before .before .before .before .before .before .before .before .before .before .if4 .left) (c .before .before .save .ensures)
 
 pub relay-forward-spec : {M : Type 1} → statement M
 relay-forward-spec =
@@ -74,7 +92,7 @@ relay-forward-spec =
     refused-requires-3
     same-length-3
     returns-3
-    step-requires
+    forward-requires
     refused-requires-4
     same-length-4
     returns-4

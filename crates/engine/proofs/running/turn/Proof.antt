@@ -1,5 +1,6 @@
 -- `engine::running::turn` meets its contract. Assumes nothing.
 use borrow.Author.Needs.{needs}
+use Rattle.network.specs.Network.{bare}
 use Rattle.engine.specs.TurnLaws.{taken-fits, turn-taken, turn-end, turn-refused}
 use Rattle.engine.proofs.running.turn.Statement.{statement}
 use Rattle.engine.proofs.running.turn.Tie as tie
@@ -27,7 +28,8 @@ refused-requires-2 c κs = search needs
 returns : tie.Need-returns
 returns c =
     let d = c .before .before .before .before .before .before .before .before .before in
-    turn-taken _ _ _ _ (d .read .given .1) (c .step .ensures)
+    let s = c .step .ensures in
+    turn-taken _ _ _ _ (d .read .given .1) (s .0 bare, (s .1 .0 bare, s .1 .1))
 
 returns-2 : tie.Need-returns-2
 returns-2 c = turn-end _ _ _ (c .before .enum-told .given .1) (c .refused .ensures)

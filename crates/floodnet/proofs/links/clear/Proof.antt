@@ -1,6 +1,6 @@
 -- `floodnet::links::clear` meets its contract. Assumes nothing.
 use borrow.Author.Needs.{needs}
-use Rattle.floodnet.specs.CodeLinks.{cleared-law}
+use Rattle.floodnet.specs.Links.{cleared}
 use Rattle.floodnet.proofs.links.clear.Statement.{statement}
 use Rattle.floodnet.proofs.links.clear.Tie as tie
 
@@ -47,7 +47,8 @@ row-clear-requires : tie.Need-row-clear-requires
 row-clear-requires c κs = search needs
 
 returns : tie.Need-returns
-returns c = cleared-law _ _ _ _ _ _ _ _ _ _ (c .before .before .without32 .ensures) (c .row-clear .ensures)
+unfolding cleared
+returns c = λ n. rw (c .before .before .without32 .ensures, c .row-clear .ensures)
 
 pub clear-spec : {M : Type 1} → statement M
 clear-spec =

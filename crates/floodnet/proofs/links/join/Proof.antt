@@ -1,5 +1,7 @@
 -- `floodnet::links::join` meets its contract. Assumes nothing.
 use borrow.Author.Needs.{needs}
+use mathlib.Core.List.{[]}
+use Rattle.network.specs.Network.{withAll}
 use Rattle.floodnet.specs.CodeLinks.{joined-law}
 use Rattle.floodnet.proofs.links.join.Statement.{statement}
 use Rattle.floodnet.proofs.links.join.Tie as tie
@@ -14,7 +16,7 @@ link-up-requires : tie.Need-link-up-requires
 link-up-requires c κs = search needs
 
 returns : tie.Need-returns
-returns c = joined-law _ _ _ _ _ _ _ _ _ _ _ _ _ _ _ _ _ (c .before .before .before .before .before .before .before .before .clear .ensures) (c .before .before .before .before .place .ensures) (c .link-up .ensures)
+returns c = λ n. joined-law _ _ _ _ _ _ _ _ (c .before .before .before .before .before .before .before .before .clear .ensures n) (c .before .before .before .before .place .ensures (withAll n 0 [] [] _ _ _ _)) (c .link-up .ensures (withAll n _ _ [] [] _ _ []))
 
 pub join-spec : {M : Type 1} → statement M
 join-spec = tie.close (tie.spec clear-requires place-requires link-up-requires returns)

@@ -1,5 +1,7 @@
 -- `floodnet::links::leave` meets its contract. Assumes nothing.
 use borrow.Author.Needs.{needs}
+use mathlib.Core.List.{[]}
+use Rattle.network.specs.Network.{withAll}
 use Rattle.floodnet.specs.CodeLinks.{left-law}
 use Rattle.floodnet.proofs.links.leave.Statement.{statement}
 use Rattle.floodnet.proofs.links.leave.Tie as tie
@@ -20,7 +22,7 @@ clear-requires : tie.Need-clear-requires
 clear-requires c κs = search needs
 
 returns : tie.Need-returns
-returns c = left-law _ _ _ _ _ _ _ _ _ _ _ (c .before .before .before .before .before .before .before .before .link-down .ensures) (c .clear .ensures)
+returns c = λ n. left-law _ _ _ _ (c .before .before .before .before .before .before .before .before .link-down .ensures (withAll n _ _ _ [] _ _ [])) (c .clear .ensures n)
 
 pub leave-spec : {M : Type 1} → statement M
 leave-spec =

@@ -32,7 +32,7 @@ row-minus-requires : tie.Need-row-minus-requires
 row-minus-requires c κs = search needs
 
 returns : tie.Need-returns
-returns c = linkDown-law _ _ _ _ _ _ _ _ (c .before .before .before .before .before .before .minus32 .ensures) (c .before .before .before .before .unmark .ensures) (c .before .before .drop-all .ensures) (c .row-minus .ensures)
+returns c = λ n. linkDown-law n _ _ _ _ _ _ _ _ (c .before .before .before .before .before .before .minus32 .ensures) (c .before .before .before .before .unmark .ensures) (c .before .before .drop-all .ensures) (c .row-minus .ensures)
 
 pub link-down-spec : {M : Type 1} → statement M
 link-down-spec =

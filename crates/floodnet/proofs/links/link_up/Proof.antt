@@ -38,7 +38,7 @@ learn-requires : tie.Need-learn-requires
 learn-requires c κs = search needs
 
 returns : tie.Need-returns
-returns c = linkUp-law _ _ _ _ _ _ _ _ _ (c .before .before .before .before .before .before .before .union32 .ensures) (c .before .before .before .before .before .mark .ensures) (c .before .before .note-all .ensures) (c .learn .ensures)
+returns c = λ n. linkUp-law n _ _ _ _ _ _ _ _ _ (c .before .before .before .before .before .before .before .union32 .ensures) (c .before .before .before .before .before .mark .ensures) (c .before .before .note-all .ensures) (c .learn .ensures)
 
 pub link-up-spec : {M : Type 1} → statement M
 link-up-spec =

@@ -1,6 +1,6 @@
 -- `floodnet::links::place` meets its contract. Assumes nothing.
 use borrow.Author.Needs.{needs}
-use Rattle.floodnet.specs.CodeLinks.{placed-law}
+use Rattle.floodnet.specs.Links.{placed}
 use Rattle.floodnet.proofs.links.place.Statement.{statement}
 use Rattle.floodnet.proofs.links.place.Tie as tie
 
@@ -26,7 +26,8 @@ element-write-subs : tie.Need-element-write-subs
 element-write-subs c = search needs
 
 returns : tie.Need-returns
-returns c = placed-law _ _ _ _ _ _ _ (c .with32 .ensures)
+unfolding placed
+returns c = λ n. rw (c .with32 .ensures)
 
 pub place-spec : {M : Type 1} → statement M
 place-spec =

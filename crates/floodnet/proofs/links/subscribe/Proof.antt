@@ -1,6 +1,6 @@
 -- `floodnet::links::subscribe` meets its contract. Assumes nothing.
 use borrow.Author.Needs.{needs}
-use Rattle.floodnet.specs.CodeLinks.{subscribed-law}
+use Rattle.floodnet.specs.Topics.{subscribedTo}
 use Rattle.floodnet.proofs.links.subscribe.Statement.{statement}
 use Rattle.floodnet.proofs.links.subscribe.Tie as tie
 
@@ -32,7 +32,8 @@ note-all-requires : tie.Need-note-all-requires
 note-all-requires c κs = search needs
 
 returns : tie.Need-returns
-returns c = subscribed-law _ _ _ _ _ _ _ (c .before .before .before .union32 .ensures) (c .note-all .ensures)
+unfolding subscribedTo
+returns c = λ n. rw (c .before .before .before .union32 .ensures, c .note-all .ensures)
 
 pub subscribe-spec : {M : Type 1} → statement M
 subscribe-spec =

@@ -1,6 +1,6 @@
 -- `floodnet::links::unsubscribe` meets its contract. Assumes nothing.
 use borrow.Author.Needs.{needs}
-use Rattle.floodnet.specs.CodeLinks.{unsubscribed-law}
+use Rattle.floodnet.specs.Topics.{unsubscribedFrom}
 use Rattle.floodnet.proofs.links.unsubscribe.Statement.{statement}
 use Rattle.floodnet.proofs.links.unsubscribe.Tie as tie
 
@@ -32,7 +32,8 @@ strike-all-requires : tie.Need-strike-all-requires
 strike-all-requires c κs = search needs
 
 returns : tie.Need-returns
-returns c = unsubscribed-law _ _ _ _ _ _ _ (c .before .before .before .minus32 .ensures) (c .strike-all .ensures)
+unfolding unsubscribedFrom
+returns c = λ n. rw (c .before .before .before .minus32 .ensures, c .strike-all .ensures)
 
 pub unsubscribe-spec : {M : Type 1} → statement M
 unsubscribe-spec =

@@ -74,8 +74,9 @@ returns : tie.Need-returns
 returns c =
     let v = c .before .before .before .before .before .before .before .before .before .before .before .without64 .ensures in
     let w = c .before .before .before .before .before .before .before .before .before .with64 .ensures in
-    let r = receivers-law _ _ _ _ _ _ _ _ _ _ v w (c .before .before .before .holders .ensures) (c .before .before .minus32 .ensures) in
-    (r, forwarded-law _ _ _ _ _ _ _ _ _ _ v w r (c .give .ensures))
+    let h = c .before .before .before .holders .ensures in
+    let r = c .before .before .minus32 .ensures in
+    (receivers-law _ _ _ _ _ _ _ _ _ _ v w h r, forwarded-law _ _ _ _ _ _ _ _ _ _ v w h r _ (c .give .ensures))
 
 pub forward-spec : {M : Type 1} → statement M
 forward-spec =

@@ -1,6 +1,6 @@
 -- `floodnet::messages::produce` meets its contract. Assumes nothing.
 use borrow.Author.Needs.{needs}
-use Rattle.floodnet.specs.CodeForward.{produced-law}
+use Rattle.floodnet.specs.Produce.{produced}
 use Rattle.floodnet.proofs.messages.produce.Statement.{statement}
 use Rattle.floodnet.proofs.messages.produce.Tie as tie
 
@@ -26,7 +26,8 @@ element-write-pending : tie.Need-element-write-pending
 element-write-pending c = search needs
 
 returns : tie.Need-returns
-returns c = produced-law _ _ _ _ (c .with64 .ensures)
+unfolding produced
+returns c = λ n. rw (c .with64 .ensures)
 
 pub produce-spec : {M : Type 1} → statement M
 produce-spec =

@@ -14,7 +14,7 @@ has32-requires c κs = search needs
 
 returns : tie.Need-returns
 unfolding refusalForward
-returns c = need-fails _ _ _ (test-fails (c .before .has32 .ensures) (c .if1 .taken))
+returns c = λ n. need-fails _ _ _ (test-fails (c .before .has32 .ensures) (c .if1 .taken))
 
 cast-has64 : tie.Need-cast-has64
 cast-has64 c = search needs
@@ -33,11 +33,11 @@ has64-requires c κs = search needs
 
 returns-2 : tie.Need-returns-2
 unfolding refusalForward
-returns-2 c = need-holds _ _ _ (test-holds (c .before .before .before .before .before .before .has32 .ensures) (c .before .before .before .before .before .if1 .left)) (need-fails _ _ _ (test-fails (c .before .has64 .ensures) (c .if2 .taken)))
+returns-2 c = λ n. need-holds _ _ _ (test-holds (c .before .before .before .before .before .before .has32 .ensures) (c .before .before .before .before .before .if1 .left)) (need-fails _ _ _ (test-fails (c .before .has64 .ensures) (c .if2 .taken)))
 
 returns-3 : tie.Need-returns-3
 unfolding refusalForward
-returns-3 c = need-holds _ _ _ (test-holds (c .before .before .before .before .before .before .has32 .ensures) (c .before .before .before .before .before .if1 .left)) (need-holds _ _ _ (test-holds (c .before .has64 .ensures) (c .if2 .left)) (refl))
+returns-3 c = λ n. need-holds _ _ _ (test-holds (c .before .before .before .before .before .before .has32 .ensures) (c .before .before .before .before .before .if1 .left)) (need-holds _ _ _ (test-holds (c .before .has64 .ensures) (c .if2 .left)) (refl))
 
 pub of-forward-spec : {M : Type 1} → statement M
 of-forward-spec =

@@ -14,7 +14,7 @@ has32-requires c κs = search needs
 
 returns : tie.Need-returns
 unfolding refusalLeave
-returns c = need-fails _ _ _ (test-fails (c .before .has32 .ensures) (c .if1 .taken))
+returns c = λ n. need-fails _ _ _ (test-fails (c .before .has32 .ensures) (c .if1 .taken))
 
 cast-if2 : tie.Need-cast-if2
 cast-if2 c = search needs
@@ -27,11 +27,11 @@ element-copy-out-if2 c = search needs
 
 returns-2 : tie.Need-returns-2
 unfolding refusalLeave
-returns-2 c = need-holds _ _ _ (test-holds (c .before .before .before .before .has32 .ensures) (c .before .before .before .if1 .left)) (need-fails _ _ _ (some-fails refl (c .if2 .taken)))
+returns-2 c = λ n. need-holds _ _ _ (test-holds (c .before .before .before .before .has32 .ensures) (c .before .before .before .if1 .left)) (need-fails _ _ _ (some-fails refl (c .if2 .taken)))
 
 returns-3 : tie.Need-returns-3
 unfolding refusalLeave
-returns-3 c = need-holds _ _ _ (test-holds (c .before .before .before .before .has32 .ensures) (c .before .before .before .if1 .left)) (need-holds _ _ _ (none-holds refl (c .if2 .left)) (refl))
+returns-3 c = λ n. need-holds _ _ _ (test-holds (c .before .before .before .before .has32 .ensures) (c .before .before .before .if1 .left)) (need-holds _ _ _ (none-holds refl (c .if2 .left)) (refl))
 
 pub of-leave-spec : {M : Type 1} → statement M
 of-leave-spec =

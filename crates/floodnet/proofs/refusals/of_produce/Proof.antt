@@ -1,9 +1,8 @@
 -- `floodnet::refusals::of_produce` meets its contract. Assumes nothing.
 use borrow.Author.Needs.{needs}
 use mathlib.Core.Path.{refl}
-use mathlib.Core.List.{[]}
 use borrow.Author.Tests.{eq-eqb, ne-eqb}
-use Rattle.network.specs.Network.{mk}
+use Rattle.network.specs.Network.{withPresent, withPubs, withPending, withSeen}
 use Rattle.floodnet.specs.Produce.{isNew}
 use Rattle.floodnet.specs.Refusals.{refusalProduce}
 use Rattle.floodnet.specs.CodeRefusals.{need-fails, need-holds, test-fails, test-holds, some-fails, none-holds, holders-is}
@@ -18,7 +17,7 @@ has32-requires c κs = search needs
 
 returns : tie.Need-returns
 unfolding refusalProduce isNew
-returns c = need-fails _ _ _ (test-fails (c .before .has32 .ensures) (c .if1 .taken))
+returns c = λ n. need-fails _ _ _ (test-fails (c .before .has32 .ensures) (c .if1 .taken))
 
 cast-if2 : tie.Need-cast-if2
 cast-if2 c = search needs
@@ -28,7 +27,7 @@ element-copy-out-if2 c = search needs
 
 returns-2 : tie.Need-returns-2
 unfolding refusalProduce isNew
-returns-2 c = need-holds _ _ _ (test-holds (c .before .before .before .before .before .has32 .ensures) (c .before .before .before .before .if1 .left)) (need-fails _ _ _ (ne-eqb _ _ (c .if2 .taken)))
+returns-2 c = λ n. need-holds _ _ _ (test-holds (c .before .before .before .before .before .has32 .ensures) (c .before .before .before .before .if1 .left)) (need-fails _ _ _ (ne-eqb _ _ (c .if2 .taken)))
 
 cast-has32-2 : tie.Need-cast-has32-2
 cast-has32-2 c = search needs
@@ -53,18 +52,18 @@ has32-requires-2 c κs = search needs
 
 returns-3 : tie.Need-returns-3
 unfolding refusalProduce isNew
-returns-3 c = need-holds _ _ _ (test-holds (c .before .before .before .before .before .before .before .before .before .before .before .has32 .ensures) (c .before .before .before .before .before .before .before .before .before .before .if1 .left)) (need-holds _ _ _ (eq-eqb _ _ (c .before .before .before .before .before .before .if2 .left)) (need-fails _ _ _ (test-fails (c .before .has322 .ensures) (c .if3 .taken))))
+returns-3 c = λ n. need-holds _ _ _ (test-holds (c .before .before .before .before .before .before .before .before .before .before .before .has32 .ensures) (c .before .before .before .before .before .before .before .before .before .before .if1 .left)) (need-holds _ _ _ (eq-eqb _ _ (c .before .before .before .before .before .before .if2 .left)) (need-fails _ _ _ (test-fails (c .before .has322 .ensures) (c .if3 .taken))))
 
 holders-requires : tie.Need-holders-requires
 holders-requires c κs = search needs
 
 returns-4 : tie.Need-returns-4
 unfolding refusalProduce isNew
-returns-4 c = need-holds _ _ _ (test-holds (c .before .before .before .before .before .before .before .before .before .before .before .before .before .has32 .ensures) (c .before .before .before .before .before .before .before .before .before .before .before .before .if1 .left)) (need-holds _ _ _ (eq-eqb _ _ (c .before .before .before .before .before .before .before .before .if2 .left)) (need-holds _ _ _ (test-holds (c .before .before .before .has322 .ensures) (c .before .before .if3 .left)) (need-fails _ _ _ (some-fails (holders-is (mk _ _ [] [] _ _ []) _ _ (c .before .holders .ensures)) (c .if4 .taken)))))
+returns-4 c = λ n. need-holds _ _ _ (test-holds (c .before .before .before .before .before .before .before .before .before .before .before .before .before .has32 .ensures) (c .before .before .before .before .before .before .before .before .before .before .before .before .if1 .left)) (need-holds _ _ _ (eq-eqb _ _ (c .before .before .before .before .before .before .before .before .if2 .left)) (need-holds _ _ _ (test-holds (c .before .before .before .has322 .ensures) (c .before .before .if3 .left)) (need-fails _ _ _ (some-fails (holders-is (withPresent (withPubs (withPending (withSeen n _) _) _) _) _ _ (c .before .holders .ensures)) (c .if4 .taken)))))
 
 returns-5 : tie.Need-returns-5
 unfolding refusalProduce isNew
-returns-5 c = need-holds _ _ _ (test-holds (c .before .before .before .before .before .before .before .before .before .before .before .before .before .has32 .ensures) (c .before .before .before .before .before .before .before .before .before .before .before .before .if1 .left)) (need-holds _ _ _ (eq-eqb _ _ (c .before .before .before .before .before .before .before .before .if2 .left)) (need-holds _ _ _ (test-holds (c .before .before .before .has322 .ensures) (c .before .before .if3 .left)) (need-holds _ _ _ (none-holds (holders-is (mk _ _ [] [] _ _ []) _ _ (c .before .holders .ensures)) (c .if4 .left)) (refl))))
+returns-5 c = λ n. need-holds _ _ _ (test-holds (c .before .before .before .before .before .before .before .before .before .before .before .before .before .has32 .ensures) (c .before .before .before .before .before .before .before .before .before .before .before .before .if1 .left)) (need-holds _ _ _ (eq-eqb _ _ (c .before .before .before .before .before .before .before .before .if2 .left)) (need-holds _ _ _ (test-holds (c .before .before .before .has322 .ensures) (c .before .before .if3 .left)) (need-holds _ _ _ (none-holds (holders-is (withPresent (withPubs (withPending (withSeen n _) _) _) _) _ _ (c .before .holders .ensures)) (c .if4 .left)) (refl))))
 
 pub of-produce-spec : {M : Type 1} → statement M
 of-produce-spec =

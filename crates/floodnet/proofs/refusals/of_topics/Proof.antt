@@ -14,11 +14,11 @@ has32-requires c κs = search needs
 
 returns : tie.Need-returns
 unfolding refusalTopics
-returns c = need-fails _ _ _ (test-fails (c .before .has32 .ensures) (c .if1 .taken))
+returns c = λ n. need-fails _ _ _ (test-fails (c .before .has32 .ensures) (c .if1 .taken))
 
 returns-2 : tie.Need-returns-2
 unfolding refusalTopics
-returns-2 c = need-holds _ _ _ (test-holds (c .before .has32 .ensures) (c .if1 .left)) (refl)
+returns-2 c = λ n. need-holds _ _ _ (test-holds (c .before .has32 .ensures) (c .if1 .left)) (refl)
 
 pub of-topics-spec : {M : Type 1} → statement M
 of-topics-spec = tie.close (tie.spec cast-has32 has32-requires returns returns-2)

@@ -1,11 +1,13 @@
 -- `floodnet::turns::forward` meets its contract. Assumes nothing.
 use borrow.Author.Needs.{needs}
-use mathlib.Core.Path.{sym, ap, _∙_}
+use mathlib.Core.Path.{ap, _∙_}
+use mathlib.Core.List.{[]}
 use Rattle.sets.specs.Set.{size}
 use Rattle.floodnet.specs.Forward.{deliveries}
-use Rattle.floodnet.specs.Refusals.{refusalForward}
-use Rattle.floodnet.specs.CodeForward.{receivers-lift, forwarded-lift}
-use Rattle.floodnet.specs.CodeTurns.{took-refused, took-done}
+use Rattle.network.specs.Network.{withPresent}
+use Rattle.floodnet.specs.CodeForward.{withMessages}
+use Rattle.floodnet.specs.Step.{refusal, effect, kindOf, deliveriesOf}
+use Rattle.floodnet.specs.CodeTurns.{stepped-refused, stepped-done}
 use Rattle.floodnet.proofs.turns.forward.Statement.{statement}
 use Rattle.floodnet.proofs.turns.forward.Tie as tie
 
@@ -16,8 +18,8 @@ refused-requires : tie.Need-refused-requires
 refused-requires c κs = search needs
 
 returns : tie.Need-returns
-unfolding refusalForward
-returns c = took-refused _ (c .before .before .of-forward .ensures) (c .before .if1 .taken) (c .refused .ensures)
+unfolding refusal
+returns c = λ n os. stepped-refused _ (c .before .before .of-forward .ensures (withMessages n [] _ _)) (c .before .if1 .taken) (c .refused .ensures)
 
 forward-requires : tie.Need-forward-requires
 forward-requires c κs = search needs
@@ -29,10 +31,10 @@ done-requires : tie.Need-done-requires
 done-requires c κs = search needs
 
 returns-2 : tie.Need-returns-2
-unfolding refusalForward deliveries
+unfolding refusal effect kindOf deliveriesOf deliveries
 returns-2 c =
-    took-done _ (c .before .before .before .before .before .before .of-forward .ensures) (c .before .before .before .before .before .if1 .left) (forwarded-lift _ _ _ _ _ _ _ _ _ _ _ _ _ (c .before .before .forward .ensures .1)) (c .done .ensures)
-    ((c .before .size32 .ensures .0) ∙ ap size ((c .before .before .forward .ensures .0) ∙ sym (receivers-lift _ _ _ _ _ _ _ _ _ _ _))) (c .before .size32 .ensures .1)
+    λ n os. stepped-done _ (c .before .before .before .before .before .before .of-forward .ensures (withMessages n [] _ _)) (c .before .before .before .before .before .if1 .left) (c .before .before .forward .ensures .1 (withPresent n _) os) (c .done .ensures)
+    ((c .before .size32 .ensures .0) ∙ ap size (c .before .before .forward .ensures .0 (withPresent n _) os)) (c .before .size32 .ensures .1)
 
 pub forward-spec : {M : Type 1} → statement M
 forward-spec =

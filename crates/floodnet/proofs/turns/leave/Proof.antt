@@ -1,8 +1,10 @@
 -- `floodnet::turns::leave` meets its contract. Assumes nothing.
 use borrow.Author.Needs.{needs}
 use mathlib.Core.Path.{refl}
-use Rattle.floodnet.specs.Refusals.{refusalLeave}
-use Rattle.floodnet.specs.CodeTurns.{took-refused, took-done}
+use mathlib.Core.List.{[]}
+use Rattle.network.specs.Network.{withAll}
+use Rattle.floodnet.specs.Step.{refusal, effect, kindOf, deliveriesOf}
+use Rattle.floodnet.specs.CodeTurns.{stepped-refused, stepped-done}
 use Rattle.floodnet.proofs.turns.leave.Statement.{statement}
 use Rattle.floodnet.proofs.turns.leave.Tie as tie
 
@@ -13,8 +15,8 @@ refused-requires : tie.Need-refused-requires
 refused-requires c κs = search needs
 
 returns : tie.Need-returns
-unfolding refusalLeave
-returns c = took-refused _ (c .before .before .of-leave .ensures) (c .before .if1 .taken) (c .refused .ensures)
+unfolding refusal
+returns c = λ n b. stepped-refused _ (c .before .before .of-leave .ensures (withAll n 0 _ _ _ [] _ _)) (c .before .if1 .taken) (c .refused .ensures)
 
 leave-requires : tie.Need-leave-requires
 leave-requires c κs = search needs
@@ -23,8 +25,8 @@ done-requires : tie.Need-done-requires
 done-requires c κs = search needs
 
 returns-2 : tie.Need-returns-2
-unfolding refusalLeave
-returns-2 c = took-done _ (c .before .before .before .before .before .before .before .before .before .before .of-leave .ensures) (c .before .before .before .before .before .before .before .before .before .if1 .left) (c .before .leave .ensures) (c .done .ensures) refl (search needs)
+unfolding refusal effect kindOf deliveriesOf
+returns-2 c = λ n b. stepped-done _ (c .before .before .before .before .before .before .before .before .before .before .of-leave .ensures (withAll n 0 _ _ _ [] _ _)) (c .before .before .before .before .before .before .before .before .before .if1 .left) (c .before .leave .ensures n) (c .done .ensures) refl (search needs)
 
 pub leave-spec : {M : Type 1} → statement M
 leave-spec =

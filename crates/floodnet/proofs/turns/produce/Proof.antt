@@ -1,8 +1,9 @@
 -- `floodnet::turns::produce` meets its contract. Assumes nothing.
 use borrow.Author.Needs.{needs}
 use mathlib.Core.Path.{refl}
-use Rattle.floodnet.specs.CodeForward.{produced-lift}
-use Rattle.floodnet.specs.CodeTurns.{took-refused, took-done}
+use Rattle.network.specs.Network.{withPresent, withPubs, withSeen}
+use Rattle.floodnet.specs.Step.{refusal, effect, kindOf, deliveriesOf}
+use Rattle.floodnet.specs.CodeTurns.{stepped-refused, stepped-done}
 use Rattle.floodnet.proofs.turns.produce.Statement.{statement}
 use Rattle.floodnet.proofs.turns.produce.Tie as tie
 
@@ -13,7 +14,8 @@ refused-requires : tie.Need-refused-requires
 refused-requires c κs = search needs
 
 returns : tie.Need-returns
-returns c = took-refused _ (c .before .before .of-produce .ensures) (c .before .if1 .taken) (c .refused .ensures)
+unfolding refusal
+returns c = λ n. stepped-refused _ (c .before .before .of-produce .ensures n) (c .before .if1 .taken) (c .refused .ensures)
 
 produce-requires : tie.Need-produce-requires
 produce-requires c κs = search needs
@@ -22,7 +24,8 @@ done-requires : tie.Need-done-requires
 done-requires c κs = search needs
 
 returns-2 : tie.Need-returns-2
-returns-2 c = took-done _ (c .before .before .before .before .of-produce .ensures) (c .before .before .before .if1 .left) (produced-lift _ _ _ _ _ _ _ _ _ _ (c .before .produce .ensures)) (c .done .ensures) refl (search needs)
+unfolding refusal effect kindOf deliveriesOf
+returns-2 c = λ n. stepped-done _ (c .before .before .before .before .of-produce .ensures n) (c .before .before .before .if1 .left) (c .before .produce .ensures (withPresent (withPubs (withSeen n _) _) _)) (c .done .ensures) refl (search needs)
 
 pub produce-spec : {M : Type 1} → statement M
 produce-spec =

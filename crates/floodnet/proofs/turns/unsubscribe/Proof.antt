@@ -1,9 +1,10 @@
 -- `floodnet::turns::unsubscribe` meets its contract. Assumes nothing.
 use borrow.Author.Needs.{needs}
 use mathlib.Core.Path.{refl}
-use Rattle.floodnet.specs.Refusals.{refusalTopics}
-use Rattle.floodnet.specs.CodeLinks.{unsubscribed-lift}
-use Rattle.floodnet.specs.CodeTurns.{took-refused, took-done}
+use Rattle.network.specs.Network.{withPresent}
+use Rattle.floodnet.specs.CodeLinks.{withLinks}
+use Rattle.floodnet.specs.Step.{refusal, effect, kindOf, deliveriesOf}
+use Rattle.floodnet.specs.CodeTurns.{stepped-refused, stepped-done}
 use Rattle.floodnet.proofs.turns.unsubscribe.Statement.{statement}
 use Rattle.floodnet.proofs.turns.unsubscribe.Tie as tie
 
@@ -14,8 +15,8 @@ refused-requires : tie.Need-refused-requires
 refused-requires c κs = search needs
 
 returns : tie.Need-returns
-unfolding refusalTopics
-returns c = took-refused _ (c .before .before .of-topics .ensures) (c .before .if1 .taken) (c .refused .ensures)
+unfolding refusal
+returns c = λ n b. stepped-refused _ (c .before .before .of-topics .ensures (withLinks n _ _ _)) (c .before .if1 .taken) (c .refused .ensures)
 
 unsubscribe-requires : tie.Need-unsubscribe-requires
 unsubscribe-requires c κs = search needs
@@ -24,8 +25,8 @@ done-requires : tie.Need-done-requires
 done-requires c κs = search needs
 
 returns-2 : tie.Need-returns-2
-unfolding refusalTopics
-returns-2 c = took-done _ (c .before .before .before .before .before .of-topics .ensures) (c .before .before .before .before .if1 .left) (unsubscribed-lift _ _ _ _ _ _ _ _ _ _ _ (c .before .unsubscribe .ensures)) (c .done .ensures) refl (search needs)
+unfolding refusal effect kindOf deliveriesOf
+returns-2 c = λ n b. stepped-done _ (c .before .before .before .before .before .of-topics .ensures (withLinks n _ _ _)) (c .before .before .before .before .if1 .left) (c .before .unsubscribe .ensures (withPresent n _)) (c .done .ensures) refl (search needs)
 
 pub unsubscribe-spec : {M : Type 1} → statement M
 unsubscribe-spec =

@@ -23,9 +23,10 @@ abbrev μ-loop : tie.MeasureT-loop
 
 returns : tie.Need-returns Inv-loop μ-loop
 returns c =
-    let a = c .before .args in
-    (walk-done (fwd (table (a .topics .now) [])) bare (a .p .0) _ (a .left) (walk-none _ _ _ _ _ (search needs)) (inl (c .if1 .taken)) .0,
-    λ n os. walk-done _ _ (a .p .0) _ (a .left) (walk-none _ _ _ _ _ (search needs)) (inl (c .if1 .taken)) .1)
+    let a = c .before .args in (
+      walk-done (fwd (table (a .topics .now) [])) bare (a .p .0) _ (a .left) (walk-none _ _ _ _ _ (search needs)) (inl (c .if1 .taken)) .0,
+      λ n os. walk-done _ _ (a .p .0) _ (a .left) (walk-none _ _ _ _ _ (search needs)) (inl (c .if1 .taken)) .1,
+    )
 
 members-requires : tie.Need-members-requires Inv-loop μ-loop
 members-requires c κs = search needs

@@ -10,8 +10,9 @@ mod rules;
 mod store;
 
 ghost use mathlib.Core.Path.{_≡_};
-ghost use lib.ListN.{length};
-ghost use Rattle.network.specs.Network.{mk};
+ghost use Prim.Native.Nat.{_+_, _*_, _<_};
+ghost use lib.ListN.{length, getD};
+ghost use Rattle.network.specs.Network.{mk, topic};
 ghost use Rattle.network.specs.State.{blankNet, opened, openOf, Opens, bytesOf, writeOf, writtenOf};
 ghost use Rattle.network.specs.Rows.{blankTable, listed, listOf};
 
@@ -289,4 +290,20 @@ pub fn read_table(table: &[u8]) -> Listed
         place: 0,
         table: Table { topics, origins },
     }
+}
+
+// The topic of a message, by the table's column of topics.
+pub fn topic_of(topics: &[u8; 64], m: Message) -> Topic
+    requires { ⌜ m .0 < 64 ⌝ }
+    ensures { λ r. ⌜ r ≡ topic (getD (now (topics .entry)) (m .0) 0) ⌝ }
+{
+    Topic(topics[m.0 as usize])
+}
+
+// Where the known subscribers of topic t at peer p stand.
+pub fn spot(p: Peer, t: Topic) -> usize
+    requires { ⌜ (p .0 < 32) × (t .0 < 32) ⌝ }
+    ensures { λ r. ⌜ r ≡ p .0 * 32 + t .0 ⌝ }
+{
+    p.0 as usize * 32 + t.0 as usize
 }

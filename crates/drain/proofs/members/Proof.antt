@@ -1,15 +1,22 @@
 -- `drain::members` meets its contract. Assumes nothing.
-use mathlib.Core.Path.{_∙_}
+use mathlib.Core.Path.{sym, _∙_}
+use native.Mathlib.Omega.{arith}
 use borrow.Author.Needs.{needs}
+use Rattle.sets.specs.Sizes.{size-none}
 use Rattle.sets.specs.Counts.{size-count}
 use Rattle.drain.proofs.members.Statement.{statement}
 use Rattle.drain.proofs.members.Tie as tie
 
+returns : tie.Need-returns
+returns c =
+    let e = c .if1 .taken in
+    (sym (rw e (sym (size-count 64 0 (omega arith)) ∙ size-none)), omega arith)
+
 size64-requires : tie.Need-size64-requires
 size64-requires c κs = search needs
 
-returns : tie.Need-returns
-returns c = (c .size64 .ensures .0 ∙ size-count 64 _ (search needs), c .size64 .ensures .1)
+returns-2 : tie.Need-returns-2
+returns-2 c = (c .size64 .ensures .0 ∙ size-count 64 _ (search needs), c .size64 .ensures .1)
 
 pub members-spec : {M : Type 1} → statement M
-members-spec = tie.close (tie.spec size64-requires returns)
+members-spec = tie.close (tie.spec returns size64-requires returns-2)

@@ -19,30 +19,12 @@ use Rattle.drain.specs.Lent.{DrainsTo}
 use Rattle.engine.specs.declared.Begun.{Begun}
 use Rattle.engine.specs.declared.Drained.{Drained}
 use Rattle.engine.specs.Start.{refusedAt, beginOf}
-use Rattle.engine.specs.StartFacts.{begin-rows, begin-long, begin-sound}
+use Rattle.engine.specs.StartFacts.{begin-rows, begin-long, begin-sound, begin-3-never}
 use Rattle.engine.specs.Draining.{drained, refusedDrain, drainEndOf}
 
 -- ---- what it begins with
 
 module _ (s t : List ℕ) where
-  -- either it is refused, not by 3, or the state has 5,120 bytes and both were read
-  begun-either : (P : Begun → Type 0) → ((number place : ℕ) → 0 < number → (number ≡ 3 → ⊥) → P (refusedAt number place))
-      → (length s ≡ 5120 → P (record { number = 0; place = 0; network = openOf s .network; table = listOf t .table })) → P (beginOf s t 0)
-  unfolding beginOf
-  begun-either P refuses reads = go (eqb (length s) 5120) (eqb (length t) 256) (eqb (listOf t .number) 0) (eqb (openOf s .number) 0) refl
-    where
-      go : (a b c d : Bool) → eqb (length s) 5120 ≡ a
-          → P (cond a
-          (cond b
-          (cond c (cond d (record { number = 0; place = 0; network = openOf s .network; table = listOf t .table }) (refusedAt 5 (openOf s .place))) (refusedAt 4 (listOf t .place)))
-          (refusedAt 2 0))
-          (refusedAt 1 0))
-      go false b c d h = refuses _ _ (omega arith) (λ z. omega (arith, z))
-      go true false c d h = refuses _ _ (omega arith) (λ z. omega (arith, z))
-      go true true false d h = refuses _ _ (omega arith) (λ z. omega (arith, z))
-      go true true true false h = refuses _ _ (omega arith) (λ z. omega (arith, z))
-      go true true true true h = reads (eqb-true _ _ h)
-
   -- the rows of the table are in range
   pub begun-rows : Rows (beginOf s t 0 .table)
   begun-rows = begin-rows s t 0
@@ -53,7 +35,7 @@ module _ (s t : List ℕ) where
 
   -- "Refusals 1, 2, 4, 5": without events nothing is refused by 3
   pub begun-never-3 : beginOf s t 0 .number ≡ 3 → ⊥
-  begun-never-3 = begun-either (λ (g : Begun). g .number ≡ 3 → ⊥) (λ k p l o. o) (λ e z. omega (arith, z))
+  begun-never-3 = begin-3-never s t 0
 
   -- the same of what the code has read, as it asks for it
   module _ {g : Begun} (e : g ≡ beginOf s t 0) where

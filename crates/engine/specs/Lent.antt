@@ -40,7 +40,7 @@ module _ (s t : List ℕ) (events : ℕ) where
   starts-refused number place {r} n h e k = rw (e, h) k
 
   pub starts-5 : length s ≡ 5120 → length t ≡ 256 → events % 16 ≡ 0 → {l : Listed} → l ≡ listOf t → l .number ≡ 0
-      → {old : Network} {r : Looked} {n : Network} → Opens s old r n → (r .number ≡ 0 → ⊥) → refusedAt 5 (r .place) ≡ beginOf s t events
+      → {old : Network} {r : Looked} {n : Network} → Opens s old r n → (r .number ≡ 0 → ⊥) → refusedAt (r .number) (r .place) ≡ beginOf s t events
   unfolding openedAs
   starts-5 e f g k z o h = begin-5 s t events e f g k z (o .answer) h
 
@@ -56,13 +56,7 @@ module _ (s t : List ℕ) (events : ℕ) where
   -- a refusal has nothing that was read
   begin-blank : (beginOf s t events .number ≡ 0 → ⊥) → refusedAt (beginOf s t events .number) (beginOf s t events .place) ≡ beginOf s t events
   begin-blank =
-      begin-by s t events (λ (g : Begun). (g .number ≡ 0 → ⊥) → refusedAt (g .number) (g .place) ≡ g)
-      (λ h. refl)
-      (λ h. refl)
-      (λ h. refl)
-      (λ r h. refl)
-      (λ p h. refl)
-      λ a b c d h. absurd (h refl)
+      begin-by s t events (λ (g : Begun). (g .number ≡ 0 → ⊥) → refusedAt (g .number) (g .place) ≡ g) (λ k p z h. refl) λ a b c d h. absurd (h refl)
 
   module _ (r : Started) (n : Network) (e : begunAs r n ≡ beginOf s t events) where
     pub started-refused : (r .number ≡ 0 → ⊥) → refusedAt (r .number) (r .place) ≡ beginOf s t events

@@ -7,8 +7,7 @@ use lib.Dec.{eqb}
 use lib.ListN.{length}
 use Rattle.network.specs.declared.Network.{Network}
 use Rattle.network.specs.declared.Table.{Table}
-use Rattle.network.specs.State.{openOf}
-use Rattle.network.specs.State.{blankNet}
+use Rattle.network.specs.State.{blankNet, openOf}
 use Rattle.network.specs.Rows.{listOf, blankTable}
 use Rattle.engine.specs.declared.Begun.{Begun}
 use Rattle.engine.specs.declared.Started.{Started}
@@ -25,7 +24,8 @@ abbrev pub begunAs : Started → Network → Begun
 begunAs r n = record { number = r .number; place = r .place; network = cond (eqb (r .number) 0) n blankNet; table = r .table }
 
 -- "1 state isn't 5,120 bytes; 2 message table isn't 256 bytes; 3 event bytes aren't a multiple of 16; 4 a message row has topic or
--- origin above 31, or bytes 2-3 not zero (lowest such row); 5 state unsound (lowest unsound record)"
+-- origin above 31, or bytes 2-3 not zero (lowest such row); 5 state unsound (lowest unsound record)". The last two are what reading the
+-- table and reading the state answer.
 unfoldable pub beginOf : List ℕ → List ℕ → ℕ → Begun
 beginOf s t events =
     cond (eqb (length s) 5120)
@@ -34,8 +34,8 @@ beginOf s t events =
     (cond (eqb (listOf t .number) 0)
     (cond (eqb (openOf s .number) 0)
     (record { number = 0; place = 0; network = openOf s .network; table = listOf t .table })
-    (refusedAt 5 (openOf s .place)))
-    (refusedAt 4 (listOf t .place)))
+    (refusedAt (openOf s .number) (openOf s .place)))
+    (refusedAt (listOf t .number) (listOf t .place)))
     (refusedAt 3 0))
     (refusedAt 2 0))
     (refusedAt 1 0)

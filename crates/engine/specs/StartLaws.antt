@@ -29,12 +29,12 @@ module _ (s t : List ℕ) (events : ℕ) where
   unfolding beginOf
   begin-3 e f h = rw (e, f, ne-eqb h)
 
-  pub begin-4 : length s ≡ 5120 → length t ≡ 256 → events % 16 ≡ 0 → {l : Listed} → l ≡ listOf t → (l .number ≡ 0 → ⊥) → refusedAt 4 (l .place) ≡ beginOf s t events
+  pub begin-4 : length s ≡ 5120 → length t ≡ 256 → events % 16 ≡ 0 → {l : Listed} → l ≡ listOf t → (l .number ≡ 0 → ⊥) → refusedAt (l .number) (l .place) ≡ beginOf s t events
   unfolding beginOf
   begin-4 e f g {l} k h = rw (e, f, g, ← k, ne-eqb h)
 
   pub begin-5 : length s ≡ 5120 → length t ≡ 256 → events % 16 ≡ 0 → {l : Listed} → l ≡ listOf t → l .number ≡ 0
-      → {o : Opened} → o ≡ openOf s → (o .number ≡ 0 → ⊥) → refusedAt 5 (o .place) ≡ beginOf s t events
+      → {o : Opened} → o ≡ openOf s → (o .number ≡ 0 → ⊥) → refusedAt (o .number) (o .place) ≡ beginOf s t events
   unfolding beginOf
   begin-5 e f g {l} k z {o} j h = rw (e, f, g, ← k, z, ← j, ne-eqb h)
 

@@ -65,7 +65,7 @@ pub(crate) fn start(
     }
     let listed = network::read_table(table);
     if listed.number != 0 {
-        return unstarted(4, listed.place);
+        return unstarted(listed.number, listed.place);
     }
     let looked = network::open(
         state,
@@ -77,7 +77,7 @@ pub(crate) fn start(
         &mut *known,
     );
     if looked.number != 0 {
-        return unstarted(5, looked.place);
+        return unstarted(looked.number, looked.place);
     }
     let rows = listed.table;
     Started {

@@ -1,6 +1,7 @@
 -- `engine::start::start` meets its contract. Assumes nothing.
 use borrow.Author.Needs.{needs}
 use mathlib.Core.Path.{_≡_, refl}
+use Rattle.sets.specs.Bools.{ne-eqb}
 use Rattle.engine.specs.StartLaws.{begin-1, begin-2, begin-3, begin-4}
 use Rattle.engine.specs.Lent.{starts-refused, starts-5, starts-0}
 use Rattle.engine.proofs.start.start.Statement.{statement}
@@ -31,7 +32,7 @@ unstarted-requires-4 : tie.Need-unstarted-requires-4
 unstarted-requires-4 c κs = search needs
 
 returns-4 : tie.Need-returns-4
-returns-4 c = starts-refused _ _ _ 4 _ _ refl (c .unstarted4 .ensures) (begin-4 _ _ _ (c .before .before .before .before .before .before .if1 .left) (c .before .before .before .before .before .if2 .left) (c .before .before .before .before .if3 .left) (c .before .before .before .read-table .ensures) (c .before .if4 .taken))
+returns-4 c = starts-refused _ _ _ _ _ _ (ne-eqb (c .before .if4 .taken)) (c .unstarted4 .ensures) (begin-4 _ _ _ (c .before .before .before .before .before .before .if1 .left) (c .before .before .before .before .before .if2 .left) (c .before .before .before .before .if3 .left) (c .before .before .before .read-table .ensures) (c .before .if4 .taken))
 
 open-requires : tie.Need-open-requires
 open-requires c κs = search needs
@@ -40,7 +41,7 @@ unstarted-requires-5 : tie.Need-unstarted-requires-5
 unstarted-requires-5 c κs = search needs
 
 returns-5 : tie.Need-returns-5
-returns-5 c = starts-refused _ _ _ 5 _ _ refl (c .unstarted5 .ensures) (starts-5 _ _ _ (c .before .before .before .before .before .before .before .before .before .before .before .before .before .before .before .if1 .left) (c .before .before .before .before .before .before .before .before .before .before .before .before .before .before .if2 .left) (c .before .before .before .before .before .before .before .before .before .before .before .before .before .if3 .left) (c .before .before .before .before .before .before .before .before .before .before .before .before .read-table .ensures) (c .before .before .before .before .before .before .before .before .before .before .if4 .left) (c .before .before .before .«open» .ensures) (c .before .if5 .taken))
+returns-5 c = starts-refused _ _ _ _ _ _ (ne-eqb (c .before .if5 .taken)) (c .unstarted5 .ensures) (starts-5 _ _ _ (c .before .before .before .before .before .before .before .before .before .before .before .before .before .before .before .if1 .left) (c .before .before .before .before .before .before .before .before .before .before .before .before .before .before .if2 .left) (c .before .before .before .before .before .before .before .before .before .before .before .before .before .if3 .left) (c .before .before .before .before .before .before .before .before .before .before .before .before .read-table .ensures) (c .before .before .before .before .before .before .before .before .before .before .if4 .left) (c .before .before .before .«open» .ensures) (c .before .if5 .taken))
 
 returns-6 : tie.Need-returns-6
 returns-6 c = starts-0 _ _ _ (c .before .before .before .before .before .before .before .before .before .before .before .before .before .before .before .if1 .left) (c .before .before .before .before .before .before .before .before .before .before .before .before .before .before .if2 .left) (c .before .before .before .before .before .before .before .before .before .before .before .before .before .if3 .left) (c .before .before .before .before .before .before .before .before .before .before .before .before .read-table .ensures) (c .before .before .before .before .before .before .before .before .before .before .if4 .left) (c .before .before .before .«open» .ensures) (c .before .if5 .left)

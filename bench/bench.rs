@@ -50,4 +50,5 @@ fn events() {
         let [proved, plain, best] = [0, 1, 2].map(|k| (time.best[k] - fixed[k]) / *count as f64);
         println!("| {count}: ns an event beyond it | {proved:.1} | {plain:.1} | {best:.1} |");
     }
+    println!("\nA single event is within the noise of the fixed cost.");
 }

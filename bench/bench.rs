@@ -1,6 +1,6 @@
-//! The proved engine beside two of plain Rust, in one run: plain.rs has the engine's algorithms, best.rs is a faster one. Each task
-//! is timed in turns, and what is printed is the best of each, the ratios of the bests, and the spreads of the ratios over the turns.
-//! Before a task is timed, the answers and bytes of all three are compared. No time is a test.
+//! The proved engine beside three of plain Rust, in one run: plain.rs has the engine's algorithms, best.rs is a faster one, without
+//! shortcuts and with them. Each task is timed in turns, and what is printed is the best of each, the ratios of the bests, and the
+//! spreads of the ratios over the turns. Before a task is timed, the answers and bytes of all four are compared. No time is a test.
 mod best;
 mod engine;
 mod inputs;
@@ -8,8 +8,9 @@ mod plain;
 mod tasks;
 mod timing;
 
+use std::array::from_fn;
 use tasks::Task;
-use timing::{laying, measure, Ratio};
+use timing::{laying, measure, Each, Ratio};
 
 fn main() {
     let tasks = tasks::tasks();
@@ -24,13 +25,18 @@ fn main() {
 }
 
 fn rows(tasks: &[Task]) {
-    println!("| task | proved, ns | plain, ns | best, ns | ratio to plain | its spread | ratio to best | its spread |");
-    println!("|---|---|---|---|---|---|---|---|");
+    let times = "proved, ns | plain, ns | best, ns | shortcuts, ns";
+    println!("| task | {times} | ratio to plain | its spread | ratio to best | its spread | ratio to shortcuts |");
+    println!("|---|---|---|---|---|---|---|---|---|---|");
     for (task, t) in tasks.iter().zip(measure(tasks)) {
-        let [proved, plain, best] = t.best;
-        let [to_plain, to_best] = t.ratios.map(|r| r.cells());
-        println!("| {} | {proved:.0} | {plain:.0} | {best:.0} | {to_plain} | {to_best} |", task.name);
+        let [plain, best, shortcuts] = t.ratios;
+        println!("| {} | {} | {} | {} | {:.2} |", task.name, cells(t.best, 0), plain.cells(), best.cells(), shortcuts.of_bests);
     }
+}
+
+/// A row's times, with so many digits after the point.
+fn cells(times: Each, digits: usize) -> String {
+    times.map(|t| format!("{t:.digits$}")).join(" | ")
 }
 
 impl Ratio {
@@ -41,14 +47,14 @@ impl Ratio {
 
 /// The first task has no event: its time is the fixed cost, and of the others what goes beyond it is shared out among the events.
 fn events() {
-    println!("| mixed events, 3 desks | proved | plain | best |");
-    println!("|---|---|---|---|");
+    println!("| mixed events, 3 desks | proved | plain | best | shortcuts |");
+    println!("|---|---|---|---|---|");
     let times = measure(&tasks::over_events());
     let fixed = times[0].best;
-    println!("| none: the fixed cost, ns | {:.0} | {:.0} | {:.0} |", fixed[0], fixed[1], fixed[2]);
+    println!("| none: the fixed cost, ns | {} |", cells(fixed, 0));
     for (count, time) in tasks::COUNTS.iter().zip(&times).skip(1) {
-        let [proved, plain, best] = [0, 1, 2].map(|k| (time.best[k] - fixed[k]) / *count as f64);
-        println!("| {count}: ns an event beyond it | {proved:.1} | {plain:.1} | {best:.1} |");
+        let beyond = from_fn(|k| (time.best[k] - fixed[k]) / *count as f64);
+        println!("| {count}: ns an event beyond it | {} |", cells(beyond, 1));
     }
     println!("\nA single event is within the noise of the fixed cost.");
 }

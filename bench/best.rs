@@ -1,12 +1,16 @@
 //! A faster engine in plain Rust, to see how far the proved one is from it. Where plain.rs reads a state into arrays and writes it back,
-//! this one works in place on the 32 records as they lie in the caller's buffer, and looks up the table's rows where they lie as well.
-//! Rows are tested without an early exit, so that the compiler compares them by vectors. The events are in best/events.rs,
-//! the drain is in best/drain.rs.
+//! this one works in place on the 32 records as they lie in the caller's buffer. Rows are tested without an early exit, so that the
+//! compiler compares them by vectors. It is timed in two forms, without shortcuts and with them; best/forms.rs says which they are.
+//! The events are in best/events.rs, the drain is in best/drain.rs.
+//! What both forms call is inlined by order, as the compiler does it of itself where one form alone is the caller.
 mod drain;
 mod events;
+mod forms;
 
-use crate::engine::{Answer, Checked, Drained, Forwarded, Refusal, Tally};
+use crate::engine::{Answer, Checked, Drained, Engine, Forwarded, Refusal, Tally};
 use events::Net;
+pub use forms::{Best, Shortcuts};
+use forms::{Form, Rows};
 
 /// A peer record, and where its fields begin.
 type Record = [u8; 160];
@@ -19,7 +23,6 @@ const SEEN: usize = 24;
 const KNOWN: usize = 32;
 
 type State = [Record; 32];
-type Rows = [[u8; 4]; 64];
 
 fn word(r: &[u8], at: usize) -> u32 {
     u32::from_le_bytes(r[at..at + 4].try_into().unwrap())
@@ -48,14 +51,6 @@ fn put_known(r: &mut Record, t: usize, w: u32) {
 /// The messages that a peer has, pending or seen.
 fn held(r: &Record) -> u64 {
     long(r, PENDING) | long(r, SEEN)
-}
-
-fn topic(rows: &Rows, m: usize) -> usize {
-    (rows[m & 63][0] & 31) as usize
-}
-
-fn origin(rows: &Rows, m: usize) -> usize {
-    rows[m & 63][1] as usize
 }
 
 /// The numbers of a set, rising.
@@ -95,6 +90,7 @@ fn rows(b: &[u8]) -> Result<&Rows, Refusal> {
 
 /// Is each row's topic and origin below 32, and the rest zero? Refused by 4 and the lowest bad row. All rows are tested together, and
 /// singly only where one is bad.
+#[inline(always)]
 fn check_rows(rows: &Rows) -> Result<(), Refusal> {
     let bad = |r: &[u8; 4]| u32::from_le_bytes(*r) & 0xffff_e0e0;
     if rows.iter().fold(0, |all, r| all | bad(r)) == 0 {
@@ -104,11 +100,13 @@ fn check_rows(rows: &Rows) -> Result<(), Refusal> {
     Err((4, place.unwrap_or(0)))
 }
 
+#[inline(always)]
 fn presence(n: &State) -> u32 {
     n.iter().enumerate().fold(0, |s, (p, r)| s | u32::from(r[PRESENT] == 1) << p)
 }
 
 /// The peers that subscribe to each topic.
+#[inline(always)]
 fn subscribers(n: &State) -> [u32; 32] {
     let mut of = [0; 32];
     for (q, r) in n.iter().enumerate() {
@@ -119,12 +117,6 @@ fn subscribers(n: &State) -> [u32; 32] {
     of
 }
 
-/// Is a whole record zero? Without an early exit.
-fn empty(r: &Record) -> bool {
-    let (longs, _) = r.as_chunks::<8>();
-    longs.iter().fold(0, |all, w| all | u64::from_le_bytes(*w)) == 0
-}
-
 /// Are the known subscribers just the neighbours that subscribe? Without an early exit.
 fn row_known(r: &Record, subscribers: &[u32; 32]) -> bool {
     let near = word(r, NEAR);
@@ -133,6 +125,7 @@ fn row_known(r: &Record, subscribers: &[u32; 32]) -> bool {
 }
 
 /// Is the record of a present peer sound?
+#[inline(always)]
 fn fits(n: &State, present: u32, subscribers: &[u32; 32], p: usize) -> bool {
     let r = &n[p];
     let near = word(r, NEAR);
@@ -144,12 +137,12 @@ fn fits(n: &State, present: u32, subscribers: &[u32; 32], p: usize) -> bool {
 }
 
 /// The present peers; refused by 5 and the lowest unsound record.
-fn check(n: &State) -> Result<u32, Refusal> {
+fn check<F: Form>(n: &State) -> Result<u32, Refusal> {
     let present = presence(n);
     let subscribers = subscribers(n);
     for (p, r) in n.iter().enumerate() {
         let sound = match word(r, PRESENT) {
-            0 => empty(r),
+            0 => F::absent(r),
             1 => fits(n, present, &subscribers, p),
             _ => false,
         };
@@ -160,19 +153,23 @@ fn check(n: &State) -> Result<u32, Refusal> {
     Ok(present)
 }
 
-fn begin<'a>(b: &'a mut [u8], table: &'a [u8], events: usize) -> Result<Net<'a>, Refusal> {
+fn begin<'a, F: Form>(b: &'a mut [u8], table: &'a [u8], events: usize) -> Result<Net<'a, F::Table<'a>>, Refusal> {
     let records = state_mut(b)?;
     let rows = rows(table)?;
     if events % 16 != 0 {
         return Err((3, 0));
     }
     check_rows(rows)?;
-    let present = check(records)?;
-    Ok(Net { records, present, rows })
+    let present = check::<F>(records)?;
+    Ok(Net { records, present, table: F::table(rows) })
 }
 
-pub fn run(b: &mut [u8], table: &[u8], events: &[u8], tally: &mut Tally) -> Answer {
-    let mut net = match begin(b, table, events.len()) {
+pub const fn engine<F: Form>() -> Engine {
+    Engine { run: run::<F>, forward: forward::<F>, drain: drain::<F>, copy: copy::<F>, image: image::<F> }
+}
+
+fn run<F: Form>(b: &mut [u8], table: &[u8], events: &[u8], tally: &mut Tally) -> Answer {
+    let mut net = match begin::<F>(b, table, events.len()) {
         Ok(net) => net,
         Err(refusal) => return Answer::refused(refusal),
     };
@@ -187,8 +184,8 @@ pub fn run(b: &mut [u8], table: &[u8], events: &[u8], tally: &mut Tally) -> Answ
     Answer { number: 0, place: 0, accepted: events.len() }
 }
 
-pub fn forward(b: &mut [u8], table: &[u8], peer: u8, message: u8) -> Forwarded {
-    let mut net = match begin(b, table, 0) {
+fn forward<F: Form>(b: &mut [u8], table: &[u8], peer: u8, message: u8) -> Forwarded {
+    let mut net = match begin::<F>(b, table, 0) {
         Ok(net) => net,
         Err(refusal) => return Forwarded::refused(refusal),
     };
@@ -200,37 +197,38 @@ pub fn forward(b: &mut [u8], table: &[u8], peer: u8, message: u8) -> Forwarded {
     Forwarded { number, place: 0, deliveries: tally.deliveries as u32 }
 }
 
-pub fn drain(b: &mut [u8], table: &[u8], budget: u32) -> Drained {
-    match begin(b, table, 0) {
-        Ok(net) => drain::drain(net.records, net.rows, budget),
+fn drain<F: Form>(b: &mut [u8], table: &[u8], budget: u32) -> Drained {
+    match begin::<F>(b, table, 0) {
+        Ok(net) => drain::drain::<F>(net.records, &net.table, budget),
         Err(refusal) => Drained::refused(refusal),
     }
 }
 
-pub fn copy(from: &[u8], to: &mut [u8]) -> Checked {
-    Checked::of(copied(from, to))
+fn copy<F: Form>(from: &[u8], to: &mut [u8]) -> Checked {
+    Checked::of(copied::<F>(from, to))
 }
 
-fn copied(from: &[u8], to: &mut [u8]) -> Result<(), Refusal> {
+fn copied<F: Form>(from: &[u8], to: &mut [u8]) -> Result<(), Refusal> {
     let n = state(from)?;
-    check(n)?;
+    check::<F>(n)?;
     *state_mut(to)? = *n;
     Ok(())
 }
 
-pub fn image(from: &[u8], to: &mut [u8]) -> Checked {
-    Checked::of(imaged(from, to))
+fn image<F: Form>(from: &[u8], to: &mut [u8]) -> Checked {
+    Checked::of(imaged::<F>(from, to))
 }
 
-fn imaged(from: &[u8], to: &mut [u8]) -> Result<(), Refusal> {
+fn imaged<F: Form>(from: &[u8], to: &mut [u8]) -> Result<(), Refusal> {
     let n = state(from)?;
-    check(n)?;
+    check::<F>(n)?;
     let image = state_mut(to).map_err(|_| (18, 0))?;
     write_image(n, image);
     Ok(())
 }
 
 /// Presence, pubs and subs, and what is seen and pending nowhere.
+#[inline(always)]
 fn write_image(n: &State, image: &mut State) {
     let waiting = n.iter().fold(0, |all, r| all | long(r, PENDING));
     for (i, r) in image.iter_mut().zip(n) {

@@ -1,5 +1,6 @@
-//! The calls that are timed, as the library's header has them, and the three who answer them: the proved engine through its static
-//! library, plain Rust, and a faster plain Rust. All three are called through pointers, so that no call is compiled into the timing.
+//! The calls that are timed, as the library's header has them, and the four who answer them: the proved engine through its static
+//! library, plain Rust, and a faster plain Rust without shortcuts and with them. All are called through pointers, so that no call is
+//! compiled into the timing.
 use crate::{best, plain};
 
 #[repr(C)]
@@ -83,10 +84,11 @@ pub struct Engine {
 
 pub const PROVED: Engine = Engine { run: proved_run, forward: proved_forward, drain: proved_drain, copy: proved_copy, image: proved_image };
 pub const PLAIN: Engine = Engine { run: plain::run, forward: plain::forward, drain: plain::drain, copy: plain::copy, image: plain::image };
-pub const BEST: Engine = Engine { run: best::run, forward: best::forward, drain: best::drain, copy: best::copy, image: best::image };
+pub const BEST: Engine = best::engine::<best::Best>();
+pub const SHORTCUTS: Engine = best::engine::<best::Shortcuts>();
 
 /// In the order of the turns and of the columns.
-pub const ALL: [Engine; 3] = [PROVED, PLAIN, BEST];
+pub const ALL: [Engine; 4] = [PROVED, PLAIN, BEST, SHORTCUTS];
 
 extern "C" {
     fn relay_run(

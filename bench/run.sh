@@ -1,6 +1,7 @@
 #!/usr/bin/env bash
-# The engine beside plain Rust and a faster plain Rust, as tables of times and ratios, all from one run. Run from anywhere; needs `rt` and
-# `rustc` on an x86-64 machine: the library that the toolchain makes is for x86-64, and a time under an emulator says nothing.
+# The engine beside plain Rust and a faster plain Rust in two forms, as tables of times and ratios, all from one run. Run from
+# anywhere; needs `rt` and `rustc` on an x86-64 machine: the library that the toolchain makes is for x86-64, and a time under an
+# emulator says nothing.
 set -eu
 cd "$(dirname "$0")/.."
 if [ "$(uname -m)" != x86_64 ]; then

@@ -1,6 +1,7 @@
-//! Times tasks on all engines in turns: proved, plain, best, proved, plain, best, and so on.
+//! Times tasks on all engines in turns: proved, plain, best, shortcuts, proved, plain, and so on.
 use crate::engine::ALL;
 use crate::tasks::{Buffer, Task};
+use std::array::from_fn;
 use std::hint::black_box;
 use std::time::Instant;
 
@@ -10,11 +11,13 @@ const TURNS: usize = 401;
 const TURN_NS: f64 = 200_000.0;
 
 /// In nanoseconds a call, in the order of `ALL`.
+pub type Each = [f64; ALL.len()];
+
 pub struct Times {
     /// The best turn of each.
-    pub best: [f64; 3],
-    /// The first engine's time over the second's and over the third's.
-    pub ratios: [Ratio; 2],
+    pub best: Each,
+    /// The first engine's time over each other's.
+    pub ratios: [Ratio; ALL.len() - 1],
 }
 
 /// The ratio of the bests, and its spread: the ratios of the single turns without the lowest and the highest tenth.
@@ -34,7 +37,7 @@ fn turn(calls: u32, mut call: impl FnMut()) -> f64 {
 }
 
 /// One turn of each engine.
-fn turn_of_all(task: &Task, calls: u32, b: &mut Buffer) -> [f64; 3] {
+fn turn_of_all(task: &Task, calls: u32, b: &mut Buffer) -> Each {
     ALL.map(|engine| {
         turn(calls, || {
             black_box(black_box(task).call(&engine, b));
@@ -65,9 +68,9 @@ pub fn measure(tasks: &[Task]) -> Vec<Times> {
 }
 
 impl Times {
-    fn of(turns: &[[f64; 3]]) -> Times {
-        let best = [0, 1, 2].map(|k| turns.iter().map(|t| t[k]).fold(f64::MAX, f64::min));
-        let ratios = [1, 2].map(|k| Ratio::of(best[0] / best[k], turns.iter().map(|t| t[0] / t[k]).collect()));
+    fn of(turns: &[Each]) -> Times {
+        let best: Each = from_fn(|k| turns.iter().map(|t| t[k]).fold(f64::MAX, f64::min));
+        let ratios = from_fn(|k| Ratio::of(best[0] / best[k + 1], turns.iter().map(|t| t[0] / t[k + 1]).collect()));
         Times { best, ratios }
     }
 }

@@ -1,9 +1,11 @@
 //! The seven events, in place on the records.
-use super::{held, known, long, members, origin, put_known, put_long, put_word, topic, word};
-use super::{Rows, State, NEAR, PENDING, PRESENT, PUBS, SEEN, SUBS};
+use super::forms::Table;
+use super::{held, known, long, members, put_known, put_long, put_word, word};
+use super::{State, NEAR, PENDING, PRESENT, PUBS, SEEN, SUBS};
 use crate::engine::Tally;
 
 /// A forward that is accepted; answers its deliveries.
+#[inline(always)]
 fn forward_one(n: &mut State, t: usize, p: usize, m: usize) -> u32 {
     let r = &mut n[p & 31];
     put_long(r, PENDING, long(r, PENDING) & !(1 << m));
@@ -18,14 +20,14 @@ fn forward_one(n: &mut State, t: usize, p: usize, m: usize) -> u32 {
     count
 }
 
-/// A state under a run: its records, who is present, and the lent table.
-pub struct Net<'a> {
+/// A state under a run: its records, who is present, and the table.
+pub struct Net<'a, T> {
     pub records: &'a mut State,
     pub present: u32,
-    pub rows: &'a Rows,
+    pub table: T,
 }
 
-impl Net<'_> {
+impl<T: Table> Net<'_, T> {
     fn here(&self, p: usize) -> bool {
         self.present >> p & 1 == 1
     }
@@ -60,10 +62,10 @@ impl Net<'_> {
         if !self.here(p) {
             return 8;
         }
-        if origin(self.rows, m) != p {
+        if self.table.origin(m) != p {
             return 10;
         }
-        if word(&self.records[p], PUBS) >> topic(self.rows, m) & 1 == 0 {
+        if word(&self.records[p], PUBS) >> self.table.topic(m) & 1 == 0 {
             return 11;
         }
         let all = members(self.present).fold(0, |all, q| all | held(&self.records[q]));
@@ -83,7 +85,7 @@ impl Net<'_> {
         if long(&self.records[p], PENDING) >> m & 1 == 0 {
             return 13;
         }
-        tally.deliveries += u64::from(forward_one(self.records, topic(self.rows, m), p, m));
+        tally.deliveries += u64::from(forward_one(self.records, self.table.topic(m), p, m));
         tally.forwards += 1;
         0
     }

@@ -1,0 +1,129 @@
+//! The calls that are timed, as the library's header has them, and the four who answer them: the proved engine through its static
+//! library, plain Rust, and a faster plain Rust without shortcuts and with them. All are called through pointers, so that no call is
+//! compiled into the timing.
+use crate::{best, plain};
+
+#[repr(C)]
+#[derive(Clone, Copy, Default, PartialEq, Eq, Debug)]
+pub struct Tally {
+    pub produced: u64,
+    pub forwards: u64,
+    pub deliveries: u64,
+}
+
+#[repr(C)]
+#[derive(Clone, Copy, PartialEq, Eq, Debug)]
+pub struct Answer {
+    pub number: u8,
+    pub place: usize,
+    pub accepted: usize,
+}
+
+#[repr(C)]
+#[derive(Clone, Copy, PartialEq, Eq, Debug)]
+pub struct Forwarded {
+    pub number: u8,
+    pub place: usize,
+    pub deliveries: u32,
+}
+
+#[repr(C)]
+#[derive(Clone, Copy, PartialEq, Eq, Debug)]
+pub struct Drained {
+    pub number: u8,
+    pub place: usize,
+    pub forwards: u32,
+    pub rounds: u32,
+    pub quiet: bool,
+}
+
+#[repr(C)]
+#[derive(Clone, Copy, PartialEq, Eq, Debug)]
+pub struct Checked {
+    pub number: u8,
+    pub place: usize,
+}
+
+/// A number and its place, as every refusal has them.
+pub type Refusal = (u8, usize);
+
+impl Answer {
+    pub fn refused((number, place): Refusal) -> Answer {
+        Answer { number, place, accepted: 0 }
+    }
+}
+
+impl Forwarded {
+    pub fn refused((number, place): Refusal) -> Forwarded {
+        Forwarded { number, place, deliveries: 0 }
+    }
+}
+
+impl Drained {
+    pub fn refused((number, place): Refusal) -> Drained {
+        Drained { number, place, forwards: 0, rounds: 0, quiet: false }
+    }
+}
+
+impl Checked {
+    pub fn of(result: Result<(), Refusal>) -> Checked {
+        let (number, place) = result.err().unwrap_or((0, 0));
+        Checked { number, place }
+    }
+}
+
+/// The timed calls: state, table, and what each asks beside them.
+#[derive(Clone, Copy)]
+pub struct Engine {
+    pub run: fn(&mut [u8], &[u8], &[u8], &mut Tally) -> Answer,
+    pub forward: fn(&mut [u8], &[u8], u8, u8) -> Forwarded,
+    pub drain: fn(&mut [u8], &[u8], u32) -> Drained,
+    pub copy: fn(&[u8], &mut [u8]) -> Checked,
+    pub image: fn(&[u8], &mut [u8]) -> Checked,
+}
+
+pub const PROVED: Engine = Engine { run: proved_run, forward: proved_forward, drain: proved_drain, copy: proved_copy, image: proved_image };
+pub const PLAIN: Engine = Engine { run: plain::run, forward: plain::forward, drain: plain::drain, copy: plain::copy, image: plain::image };
+pub const BEST: Engine = best::engine::<best::Best>();
+pub const SHORTCUTS: Engine = best::engine::<best::Shortcuts>();
+
+/// In the order of the turns and of the columns.
+pub const ALL: [Engine; 4] = [PROVED, PLAIN, BEST, SHORTCUTS];
+
+extern "C" {
+    fn relay_run(
+        state: *mut u8,
+        state_length: usize,
+        table: *const u8,
+        table_length: usize,
+        events: *const u8,
+        events_length: usize,
+        tally: *mut Tally,
+    ) -> Answer;
+    fn relay_forward(state: *mut u8, state_length: usize, table: *const u8, table_length: usize, peer: u8, message: u8) -> Forwarded;
+    fn relay_drain(state: *mut u8, state_length: usize, table: *const u8, table_length: usize, budget: u32) -> Drained;
+    fn relay_copy(from: *const u8, from_length: usize, to: *mut u8, to_length: usize) -> Checked;
+    fn relay_image(state: *const u8, state_length: usize, image: *mut u8, image_length: usize) -> Checked;
+}
+
+// What the header asks of a caller (pointers fit for their lengths, written buffers apart) holds for slices.
+
+fn proved_run(state: &mut [u8], table: &[u8], events: &[u8], tally: &mut Tally) -> Answer {
+    unsafe { relay_run(state.as_mut_ptr(), state.len(), table.as_ptr(), table.len(), events.as_ptr(), events.len(), tally) }
+}
+
+fn proved_forward(state: &mut [u8], table: &[u8], peer: u8, message: u8) -> Forwarded {
+    unsafe { relay_forward(state.as_mut_ptr(), state.len(), table.as_ptr(), table.len(), peer, message) }
+}
+
+fn proved_drain(state: &mut [u8], table: &[u8], budget: u32) -> Drained {
+    unsafe { relay_drain(state.as_mut_ptr(), state.len(), table.as_ptr(), table.len(), budget) }
+}
+
+fn proved_copy(from: &[u8], to: &mut [u8]) -> Checked {
+    unsafe { relay_copy(from.as_ptr(), from.len(), to.as_mut_ptr(), to.len()) }
+}
+
+fn proved_image(state: &[u8], image: &mut [u8]) -> Checked {
+    unsafe { relay_image(state.as_ptr(), state.len(), image.as_mut_ptr(), image.len()) }
+}

@@ -4,6 +4,8 @@ use mathlib.Core.List.{List}
 use Prim.Native.Nat.{ℕ}
 use lib.Dec.{eqb, ltb}
 use lib.ListN.{length}
+use Rattle.network.specs.declared.Network.{Network}
+use Rattle.network.specs.declared.Table.{Table}
 use Rattle.network.specs.Network.{peer, message}
 use Rattle.network.specs.State.{openOf, bytesOf}
 use Rattle.floodnet.specs.Refusals.{refusalForward}
@@ -22,22 +24,25 @@ pub record Forwards : Type 0 where
 abbrev pub noForward : ℕ → ℕ → List ℕ → Forwards
 noForward number place s = record { answer = record { number = number; place = place; deliveries = 0 }; state = s }
 
+-- past the refusals of what was read, on the network n and the table b: 7 for a number out of range, then the forward's own conditions
+unfoldable pub forwardOn : List ℕ → Network → Table → ℕ → ℕ → Forwards
+forwardOn s n b p m =
+    let k = refusalForward n (peer p) (message m) in
+    cond (ltb p 32 && ltb m 64)
+    (cond (eqb k 0)
+    (record {
+      answer = record { number = 0; place = 0; deliveries = deliveries n b (peer p) (message m) };
+      state = bytesOf (forwarded n b (peer p) (message m));
+    })
+    (noForward k 0 s))
+    (noForward 7 0 s)
+
 -- "Called alone on a state, table, peer and message, it refuses by 1, 2, 4, 5, 7, 8, 13 in this order, place 0 for the last three,
 -- buffers untouched."
 unfoldable pub forwardOf : List ℕ → List ℕ → ℕ → ℕ → Forwards
 forwardOf s t p m =
     let g = beginOf s t 0 in
-    let k = refusalForward (g .network) (peer p) (message m) in
-    cond (eqb (g .number) 0)
-    (cond (ltb p 32 && ltb m 64)
-    (cond (eqb k 0)
-    (record {
-      answer = record { number = 0; place = 0; deliveries = deliveries (g .network) (g .table) (peer p) (message m) };
-      state = bytesOf (forwarded (g .network) (g .table) (peer p) (message m));
-    })
-    (noForward k 0 s))
-    (noForward 7 0 s))
-    (noForward (g .number) (g .place) s)
+    cond (eqb (g .number) 0) (forwardOn s (g .network) (g .table) p m) (noForward (g .number) (g .place) s)
 
 -- reading alone: "Reading and writing refuse by 1, then 5, and by nothing else"
 abbrev pub checked : ℕ → ℕ → Checked

@@ -15,6 +15,10 @@ pub check-is : {o : Opened} (s : List ℕ) → o ≡ openOf s → checked (o .nu
 unfolding checkOf
 check-is s e = ap (λ (x : Opened). checked (x .number) (x .place)) e
 
+-- the answer, made by a function of its own
+pub answered-as : {A B : Type 0} {a a′ x : A} {y z : B} → a ≡ a′ → (a′ ≡ x) × (y ≡ z) → (a ≡ x) × (y ≡ z)
+answered-as e h = (e ∙ h .0, h .1)
+
 -- the read is refused
 pub copy-refused : {o : Opened} (s to : List ℕ) → o ≡ openOf s → (o .number ≡ 0 → ⊥) → (checked (o .number) (o .place) ≡ copyOf s to) × (to ≡ copiedOf s to)
 unfolding copyOf copiedOf

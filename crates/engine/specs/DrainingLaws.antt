@@ -1,5 +1,5 @@
 -- Laws of the drain as an entry point: what it begins with, and each way that it ends. Assumes nothing.
-use mathlib.Core.Path.{_≡_, refl}
+use mathlib.Core.Path.{_≡_, _∙_}
 use mathlib.Core.Bool.{Bool, true, false, cond}
 use mathlib.Core.List.{List}
 use Prim.Native.Nat.{ℕ, _<_}
@@ -60,8 +60,8 @@ drain-refused {g} s t budget e h k = (rw (← e, ne-eqb h) k, rw (← e, ne-eqb 
 pub drain-done : {g : Begun} {e f : List ℕ} {r : Drains} (s t now-s : List ℕ) (budget : ℕ) → Bytes s → g ≡ beginOf s t 0 → g .number ≡ 0
     → DrainsTo (g .network .known) (g .table .topics) (g .network .pending) (g .network .seen) budget e f r
     → now-s ≡ bytesOf (withMessages (g .network) e f (g .network .known))
-    → Ended s t budget (drained 0 0 (r .forwards) (r .rounds) (r .quiet)) now-s
+    → {x : Drained} → x ≡ drained 0 0 (r .forwards) (r .rounds) (r .quiet) → Ended s t budget x now-s
 unfolding drainEndOf
-drain-done {g} s t now-s budget h k z d w =
+drain-done {g} s t now-s budget h k z d w y =
     let a = d (g .network) (g .table .origins) (rw k (begun-sound s t h)) (rw k (begun-rows s t)) in
-    (rw (← k, z, a .forwards, a .rounds, a .quiet), rw (← k, z, ← (a .end)) w)
+    (y ∙ rw (← k, z, a .forwards, a .rounds, a .quiet), rw (← k, z, ← (a .end)) w)

@@ -23,7 +23,7 @@ use Rattle.engine.specs.declared.Begun.{Begun}
 use Rattle.engine.specs.declared.Forwarded.{Forwarded}
 use Rattle.engine.specs.Start.{beginOf}
 use Rattle.engine.specs.StartFacts.{begin-rows, begin-long}
-use Rattle.engine.specs.Alone.{Forwards, forwardOf}
+use Rattle.engine.specs.Alone.{Forwards, forwardOn, forwardOf}
 
 -- an answer by its parts
 abbrev pub forwardedBy : ℕ → ℕ → ℕ → Forwarded
@@ -66,48 +66,47 @@ forward-fits p m l j = (omega arith, omega arith)
 
 -- ---- each way that it ends
 
+module _ (s : List ℕ) (n : Network) (b : Table) (p m : ℕ) where
+  -- refused by 7: no such peer; no such message
+  pub forward-peer : {r : Forwarded} → r ≡ forwardedBy 7 0 0 → 31 < p → Gives r s (forwardOn s n b p m)
+  unfolding forwardOn
+  forward-peer k h = let w : ltb p 32 ≡ false = le-ltb p 32 (omega arith) in (k ∙ rw w, rw w)
+
+  pub forward-message : {r : Forwarded} → r ≡ forwardedBy 7 0 0 → p ≤ 31 → 63 < m → Gives r s (forwardOn s n b p m)
+  unfolding forwardOn
+  forward-message k l h =
+      let v : ltb p 32 ≡ true = lt-ltb p 32 (omega arith) in
+      let w : ltb m 64 ≡ false = le-ltb m 64 (omega arith) in
+      (k ∙ rw (v, w), rw (v, w))
+
+  -- refused by 8 or 13
+  pub forward-refused : {r : Forwarded} {x : Turned} → r ≡ forwardedBy (x .number) 0 0 → p ≤ 31 → m ≤ 63
+      → x ≡ turnedOf n b (forwardEvent p m) → (x .number ≡ 0 → ⊥) → Gives r s (forwardOn s n b p m)
+  unfolding forwardOn
+  forward-refused {r} {x} k l j q h =
+      let v : ltb p 32 ≡ true = lt-ltb p 32 (omega arith) in
+      let w : ltb m 64 ≡ true = lt-ltb m 64 (omega arith) in
+      let y : x .number ≡ refusalForward n (peer p) (message m) = ap (λ (u : Turned). u .number) q ∙ forward-number n b p m in
+      (k ∙ rw (v, w, ← y, ne-eqb h), rw (v, w, ← y, ne-eqb h))
+
+  -- accepted
+  pub forward-done : {r : Forwarded} {x : Turned} {n′ : Network} {to : List ℕ} → r ≡ forwardedBy 0 0 (x .deliveries) → p ≤ 31 → m ≤ 63
+      → x ≡ turnedOf n b (forwardEvent p m) → n′ ≡ after n b (forwardEvent p m) → x .number ≡ 0 → to ≡ bytesOf n′ → Gives r to (forwardOn s n b p m)
+  unfolding forwardOn
+  forward-done {r} {x} {n′} {to} k l j q a h c =
+      let v : ltb p 32 ≡ true = lt-ltb p 32 (omega arith) in
+      let w : ltb m 64 ≡ true = lt-ltb m 64 (omega arith) in
+      let y : refusalForward n (peer p) (message m) ≡ 0 = sym (forward-number n b p m) ∙ (sym (ap (λ (u : Turned). u .number) q) ∙ h) in
+      let d : x .deliveries ≡ deliveries n b (peer p) (message m) = ap (λ (u : Turned). u .deliveries) q ∙ forward-deliveries n b p m y in
+      (k ∙ rw (v, w, y, d), rw (v, w, y) (c ∙ ap bytesOf (a ∙ forward-after n b p m y)))
+
 module _ (s t : List ℕ) (p m : ℕ) {g : Begun} (e : g ≡ beginOf s t 0) where
-  -- what was read: the table's rows, and the state's length
-  pub forward-rows : Rows (g .table)
-  forward-rows = rw e (begin-rows s t 0)
-
-  pub forward-long : g .number ≡ 0 → length s ≡ 5120
-  forward-long z = begin-long s t 0 (sym (ap (λ (x : Begun). x .number) e) ∙ z)
-
   -- refused by 1, 2, 4 or 5
   pub forward-begun : {r : Forwarded} → r ≡ forwardedBy (g .number) (g .place) 0 → (g .number ≡ 0 → ⊥) → Gives r s (forwardOf s t p m)
   unfolding forwardOf
   forward-begun k h = (k ∙ rw (← e, ne-eqb h), rw (← e, ne-eqb h))
 
-  -- refused by 7: no such peer; no such message
-  pub forward-peer : {r : Forwarded} → r ≡ forwardedBy 7 0 0 → g .number ≡ 0 → 31 < p → Gives r s (forwardOf s t p m)
+  -- both were read
+  pub forward-read : {r : Forwarded} {to : List ℕ} → g .number ≡ 0 → Gives r to (forwardOn s (g .network) (g .table) p m) → Gives r to (forwardOf s t p m)
   unfolding forwardOf
-  forward-peer k z h = let w : ltb p 32 ≡ false = le-ltb p 32 (omega arith) in (k ∙ rw (← e, z, w), rw (← e, z, w))
-
-  pub forward-message : {r : Forwarded} → r ≡ forwardedBy 7 0 0 → g .number ≡ 0 → p ≤ 31 → 63 < m → Gives r s (forwardOf s t p m)
-  unfolding forwardOf
-  forward-message k z l h =
-      let v : ltb p 32 ≡ true = lt-ltb p 32 (omega arith) in
-      let w : ltb m 64 ≡ false = le-ltb m 64 (omega arith) in
-      (k ∙ rw (← e, z, v, w), rw (← e, z, v, w))
-
-  -- refused by 8 or 13
-  pub forward-refused : {r : Forwarded} {x : Turned} → r ≡ forwardedBy (x .number) 0 0 → g .number ≡ 0 → p ≤ 31 → m ≤ 63
-      → x ≡ turnedOf (g .network) (g .table) (forwardEvent p m) → (x .number ≡ 0 → ⊥) → Gives r s (forwardOf s t p m)
-  unfolding forwardOf
-  forward-refused {r} {x} k z l j q h =
-      let v : ltb p 32 ≡ true = lt-ltb p 32 (omega arith) in
-      let w : ltb m 64 ≡ true = lt-ltb m 64 (omega arith) in
-      let y : x .number ≡ refusalForward (g .network) (peer p) (message m) = ap (λ (u : Turned). u .number) q ∙ forward-number (g .network) (g .table) p m in
-      (k ∙ rw (← e, z, v, w, ← y, ne-eqb h), rw (← e, z, v, w, ← y, ne-eqb h))
-
-  -- accepted
-  pub forward-done : {x : Turned} {n : Network} {to : List ℕ} → g .number ≡ 0 → p ≤ 31 → m ≤ 63 → x ≡ turnedOf (g .network) (g .table) (forwardEvent p m)
-      → n ≡ after (g .network) (g .table) (forwardEvent p m) → x .number ≡ 0 → to ≡ bytesOf n → Gives (forwardedBy 0 0 (x .deliveries)) to (forwardOf s t p m)
-  unfolding forwardOf
-  forward-done {x} {n} {to} z l j q a h b =
-      let v : ltb p 32 ≡ true = lt-ltb p 32 (omega arith) in
-      let w : ltb m 64 ≡ true = lt-ltb m 64 (omega arith) in
-      let y : refusalForward (g .network) (peer p) (message m) ≡ 0 = sym (forward-number (g .network) (g .table) p m) ∙ (sym (ap (λ (u : Turned). u .number) q) ∙ h) in
-      let d : x .deliveries ≡ deliveries (g .network) (g .table) (peer p) (message m) = ap (λ (u : Turned). u .deliveries) q ∙ forward-deliveries (g .network) (g .table) p m y in
-      (rw (← e, z, v, w, y, d), rw (← e, z, v, w, y) (b ∙ ap bytesOf (a ∙ forward-after (g .network) (g .table) p m y)))
+  forward-read z h = rw (← e, z) h

@@ -23,7 +23,7 @@ use Rattle.engine.specs.declared.Tally.{Tally}
 use Rattle.engine.specs.declared.Begun.{Begun}
 use Rattle.engine.specs.Start.{beginOf}
 use Rattle.engine.specs.Run.{zeroTally, talliedOf, turnOf, Final, allDone, runFrom, runAll, written, Ending, runOf}
-use Rattle.engine.specs.Alone.{Forwards, noForward, forwardOf}
+use Rattle.engine.specs.Alone.{Forwards, noForward, forwardOn, forwardOf}
 use Rattle.engine.specs.ForwardAlone.{forwardEvent, forward-fits}
 
 -- an accepted event, alone in its list
@@ -42,7 +42,7 @@ pub record Passed (s t : List ℕ) (p m : ℕ) : Type 0 where
   pub state : forwardOf s t p m .state ≡ bytesOf (forwarded (beginOf s t 0 .network) (beginOf s t 0 .table) (peer p) (message m))
 
 pub forward-passed : (s t : List ℕ) (p m : ℕ) → forwardOf s t p m .answer .number ≡ 0 → Passed s t p m
-unfolding forwardOf
+unfolding forwardOf forwardOn
 forward-passed s t p m = go (eqb (g .number) 0) (ltb p 32 && ltb m 64) (eqb k 0) refl refl refl
   where
     g : Begun

@@ -61,6 +61,10 @@ turnOf b n (Refused k) = record { turned = refusedBy k; network = n }
 
 -- ---- a run
 
+-- "The answer of a run is a number, a place and the count of accepted events."
+abbrev pub answered : ℕ → ℕ → ℕ → Answer
+answered number place accepted = record { number = number; place = place; accepted = accepted }
+
 -- how a run ended: its answer, the tally and the network
 pub record Final : Type 0 where
   pub answer : Answer

@@ -4,23 +4,30 @@ use mathlib.Core.List.{List}
 use Prim.Native.Nat.{ℕ}
 use lib.ListN.{length}
 use Rattle.sets.specs.Bools.{ne-eqb}
+use Rattle.network.specs.declared.Network.{Network}
 use Rattle.network.specs.State.{bytesOf}
 use Rattle.engine.specs.declared.Tally.{Tally}
 use Rattle.engine.specs.declared.Begun.{Begun}
-use Rattle.engine.specs.declared.Ran.{Ran}
+use Rattle.engine.specs.declared.Answer.{Answer}
 use Rattle.engine.specs.Start.{beginOf}
-use Rattle.engine.specs.Run.{runAll, RunsTo, runOf, Ends}
+use Rattle.engine.specs.Run.{answered, Final, ran, runAll, RunsTo, written, runOf, Ends}
 
 -- refused before any event
 pub ends-refused : (s t ev : List ℕ) (old : Tally) {g : Begun} → g ≡ beginOf s t (length ev) → (g .number ≡ 0 → ⊥)
-    → Ends (record { number = g .number; place = g .place; accepted = 0 }) s old (runOf s t ev old)
+    → {r : Answer} → r ≡ answered (g .number) (g .place) 0 → Ends r s old (runOf s t ev old)
 unfolding runOf
-ends-refused s t ev old {g} e h =
-    rw (← e, ne-eqb h) (record { answer = refl; state = refl; tally = refl })
+ends-refused s t ev old {g} e h a =
+    rw (← e, ne-eqb h) (record { answer = a; state = refl; tally = refl })
+
+-- the answer, made by a function of its own
+pub runs-as : {a a′ : Answer} {n : Network} {t : Tally} {f : Final} → a ≡ a′ → RunsTo (ran a′ n) t f → RunsTo (ran a n) t f
+runs-as e x = record { answer = e ∙ x .answer; network = x .network; tally = x .tally }
 
 -- the events were run and the state was written
-pub ends-run : (s t ev : List ℕ) (old : Tally) {g : Begun} → g ≡ beginOf s t (length ev) → g .number ≡ 0 → (r : Ran) (new : Tally) → RunsTo r new (runAll ev (g .table) (g .network))
-    → (s′ : List ℕ) → s′ ≡ bytesOf (r .network) → Ends (r .answer) s′ new (runOf s t ev old)
+pub ends-written : {r : Answer} {n : Network} {new : Tally} {f : Final} {s : List ℕ} → RunsTo (ran r n) new f → s ≡ bytesOf n → Ends r s new (written f)
+ends-written run k = record { answer = run .answer; state = k ∙ ap bytesOf (run .network); tally = run .tally }
+
+pub ends-run : (s t ev : List ℕ) (old : Tally) {g : Begun} → g ≡ beginOf s t (length ev) → g .number ≡ 0 → {r : Answer} {s′ : List ℕ} {new : Tally}
+    → Ends r s′ new (written (runAll ev (g .table) (g .network))) → Ends r s′ new (runOf s t ev old)
 unfolding runOf
-ends-run s t ev old {g} e z r new run s′ k =
-    rw (← e, z) (record { answer = run .answer; state = k ∙ ap bytesOf (run .network); tally = run .tally })
+ends-run s t ev old e z x = rw (← e, z) x

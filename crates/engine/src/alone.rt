@@ -1,12 +1,24 @@
 // Reading alone, reading one buffer and writing another, and the single forward.
 ghost use mathlib.Core.Path.{_≡_};
-ghost use Rattle.engine.specs.Alone.{checkOf, copyOf, copiedOf, forwardOf};
-ghost use Rattle.engine.specs.ForwardAlone.{forwardedBy};
+ghost use mathlib.Core.List.{List};
+ghost use Prim.Native.Nat.{ℕ, _<_};
+ghost use lib.ListN.{length, getD};
+ghost use Rattle.network.specs.Network.{mk};
+ghost use Rattle.floodnet.specs.CodeForward.{table};
+ghost use Rattle.engine.specs.Alone.{checked, checkOf, copyOf, copiedOf, forwardOn, forwardOf};
+ghost use Rattle.engine.specs.ForwardAlone.{forwardedBy, Gives};
 use crate::Checked;
 use crate::Forwarded;
 use crate::start;
 use network::Message;
 use network::Peer;
+
+// The answer of an entry point that only reads or writes.
+pub(crate) fn answer(number: u8, place: usize) -> Checked
+    ensures { λ r. ⌜ r ≡ checked number place ⌝ }
+{
+    Checked { number, place }
+}
 
 // "Reading [..] refuse[s] by 1, then 5, and by nothing else".
 #[no_mangle]
@@ -28,10 +40,7 @@ pub extern "C" fn relay_check(state: &[u8]) -> Checked
         &mut seen,
         &mut known,
     );
-    Checked {
-        number: opened.number,
-        place: opened.place,
-    }
+    answer(opened.number, opened.place)
 }
 
 // Reads a state and writes it to another buffer; a refusal leaves that buffer untouched.
@@ -55,16 +64,10 @@ pub extern "C" fn relay_copy(from: &[u8], to: &mut [u8]) -> Checked
         &mut known,
     );
     if opened.number != 0 {
-        return Checked {
-            number: opened.number,
-            place: opened.place,
-        };
+        return answer(opened.number, opened.place);
     }
     if to.len() != 5120 {
-        return Checked {
-            number: 1,
-            place: 0,
-        };
+        return answer(1, 0);
     }
     network::save(
         opened.present,
@@ -76,21 +79,68 @@ pub extern "C" fn relay_copy(from: &[u8], to: &mut [u8]) -> Checked
         &known,
         to,
     );
-    Checked {
-        number: 0,
-        place: 0,
-    }
+    answer(0, 0)
 }
 
-// A refused forward delivers nothing.
-fn refused(number: u8, place: usize) -> Forwarded
-    ensures { λ r. ⌜ r ≡ forwardedBy number place 0 ⌝ }
+// The answer of a single forward; a refused one delivers nothing.
+fn forwarded(number: u8, place: usize, deliveries: u32) -> Forwarded
+    ensures { λ r. ⌜ r ≡ forwardedBy number place deliveries ⌝ }
 {
     Forwarded {
         number,
         place,
-        deliveries: 0,
+        deliveries,
     }
+}
+
+// The forward on lent arrays, past the refusals of what was read; accepted, the state is written from them.
+fn forward_saved<'a>(
+    state: &mut [u8],
+    present: u32,
+    pubs: &'a [u32; 32],
+    subs: &'a [u32; 32],
+    neighbours: &'a [u32; 32],
+    pending: &mut [u64; 32],
+    seen: &mut [u64; 32],
+    known: &'a [u32; 1024],
+    topics: &[u8; 64],
+    peer: u8,
+    message: u8,
+) -> Forwarded
+    requires { ⌜ (length (now state) ≡ 5120) × ((i : ℕ) → getD (now topics) i 0 < 32) ⌝ }
+    ensures { λ r. ⌜ ((origins : List ℕ) → Gives r (now (state .exit)) (forwardOn (now (state .entry))
+        (mk present (now (pubs .entry)) (now (subs .entry)) (now (neighbours .entry)) (now (pending .entry)) (now (seen .entry)) (now (known .entry)))
+        (table (now (topics .entry)) origins) peer message)) ⌝ }
+{
+    if peer > 31 {
+        return forwarded(7, 0, 0);
+    }
+    if message > 63 {
+        return forwarded(7, 0, 0);
+    }
+    let turned = floodnet::turns::forward(
+        present,
+        &mut *pending,
+        &mut *seen,
+        known,
+        topics,
+        Peer(peer),
+        Message(message),
+    );
+    if turned.number != 0 {
+        return forwarded(turned.number, 0, 0);
+    }
+    network::save(
+        present,
+        &*pubs,
+        &*subs,
+        &*neighbours,
+        &*pending,
+        &*seen,
+        &*known,
+        &mut *state,
+    );
+    forwarded(0, 0, turned.deliveries)
 }
 
 // "Called alone on a state, table, peer and message, it refuses by 1, 2, 4, 5, 7, 8, 13 in this order, place 0 for the last three,
@@ -117,41 +167,21 @@ pub extern "C" fn relay_forward(state: &mut [u8], table: &[u8], peer: u8, messag
         &mut known,
     );
     if begun.number != 0 {
-        return refused(begun.number, begun.place);
-    }
-    if peer > 31 {
-        return refused(7, 0);
-    }
-    if message > 63 {
-        return refused(7, 0);
+        return forwarded(begun.number, begun.place, 0);
     }
     let rows = begun.table;
     let topics = rows.topics;
-    let turned = floodnet::turns::forward(
-        begun.present,
-        &mut pending,
-        &mut seen,
-        &known,
-        &topics,
-        Peer(peer),
-        Message(message),
-    );
-    if turned.number != 0 {
-        return refused(turned.number, 0);
-    }
-    network::save(
+    forward_saved(
+        state,
         begun.present,
         &pubs,
         &subs,
         &neighbours,
-        &pending,
-        &seen,
+        &mut pending,
+        &mut seen,
         &known,
-        state,
-    );
-    Forwarded {
-        number: 0,
-        place: 0,
-        deliveries: turned.deliveries,
-    }
+        &topics,
+        peer,
+        message,
+    )
 }

@@ -1,6 +1,6 @@
 // The drain by rounds (document 01, "Drain by rounds").
 ghost use mathlib.Core.Path.{_≡_};
-ghost use Rattle.engine.specs.Draining.{refusedDrain, drainEndOf};
+ghost use Rattle.engine.specs.Draining.{drained, refusedDrain, drainEndOf};
 use crate::Drained;
 use crate::start;
 
@@ -14,6 +14,19 @@ fn refused(number: u8, place: usize) -> Drained
         forwards: 0,
         rounds: 0,
         quiet: false,
+    }
+}
+
+// What the drain answered.
+fn done(d: drain::Drains) -> Drained
+    ensures { λ r. ⌜ r ≡ drained 0 0 (d .forwards) (d .rounds) (d .quiet) ⌝ }
+{
+    Drained {
+        number: 0,
+        place: 0,
+        forwards: d.forwards,
+        rounds: d.rounds,
+        quiet: d.quiet,
     }
 }
 
@@ -56,11 +69,5 @@ pub extern "C" fn relay_drain(state: &mut [u8], table: &[u8], budget: u32) -> Dr
         &known,
         state,
     );
-    Drained {
-        number: 0,
-        place: 0,
-        forwards: drains.forwards,
-        rounds: drains.rounds,
-        quiet: drains.quiet,
-    }
+    done(drains)
 }

@@ -2,6 +2,7 @@
 ghost use mathlib.Core.Path.{_≡_};
 ghost use Rattle.engine.specs.Imaging.{imageAnswerOf, imagedOf};
 use crate::Checked;
+use crate::alone;
 
 // "Refusals 1, 5, 18 in that order leave both buffers untouched; the state is never written."
 #[no_mangle]
@@ -24,16 +25,10 @@ pub extern "C" fn relay_image(state: &[u8], image: &mut [u8]) -> Checked
         &mut known,
     );
     if opened.number != 0 {
-        return Checked {
-            number: opened.number,
-            place: opened.place,
-        };
+        return alone::answer(opened.number, opened.place);
     }
     if image.len() != 5120 {
-        return Checked {
-            number: 18,
-            place: 0,
-        };
+        return alone::answer(18, 0);
     }
     let settled = broadcastnet::settled(seen, broadcastnet::underway(pending));
     let none = [0u32; 32];
@@ -49,8 +44,5 @@ pub extern "C" fn relay_image(state: &[u8], image: &mut [u8]) -> Checked
         &unknown,
         image,
     );
-    Checked {
-        number: 0,
-        place: 0,
-    }
+    alone::answer(0, 0)
 }

@@ -2,9 +2,10 @@
 // the lent counts are updated event by event.
 ghost use mathlib.Core.Path.{_≡_};
 ghost use Prim.Native.Nat.{_≤_};
+ghost use lib.ListN.{length};
 ghost use Rattle.network.specs.Network.{mk, Rows};
 ghost use Rattle.floodnet.specs.CodeForward.{table};
-ghost use Rattle.engine.specs.Run.{tally, refusedBy, turnOf, ran, runAll, RunsTo, runOf, Ends};
+ghost use Rattle.engine.specs.Run.{tally, answered, refusedBy, turnOf, ran, runAll, RunsTo, written, runOf, Ends};
 ghost use Rattle.engine.specs.RunSound.{ReadFits};
 use crate::Answer;
 use crate::Ran;
@@ -62,6 +63,17 @@ fn turn(
     }
 }
 
+// The answer of a run.
+fn answer(number: u8, place: usize, accepted: usize) -> Answer
+    ensures { λ r. ⌜ r ≡ answered number place accepted ⌝ }
+{
+    Answer {
+        number,
+        place,
+        accepted,
+    }
+}
+
 // Every event of the list, on the lent parts of a network; the lent counts start from zero.
 pub(crate) fn run_parts(
     present: &mut u32,
@@ -101,11 +113,7 @@ pub(crate) fn run_parts(
         );
         let number = turned.number;
         if number != 0 {
-            return Answer {
-                number,
-                place,
-                accepted: place,
-            };
+            return answer(number, place, place);
         }
         counts::count_in(
             &mut *produced,
@@ -116,11 +124,7 @@ pub(crate) fn run_parts(
         );
         place += 1;
     }
-    Answer {
-        number: 0,
-        place: 0,
-        accepted: place,
-    }
+    answer(0, 0, place)
 }
 
 // The same from a network by value.
@@ -173,6 +177,57 @@ pub fn run_events(
     }
 }
 
+// The events on lent parts, and the state written from them.
+fn run_saved(
+    state: &mut [u8],
+    present: u32,
+    pubs: &mut [u32; 32],
+    subs: &mut [u32; 32],
+    neighbours: &mut [u32; 32],
+    pending: &mut [u64; 32],
+    seen: &mut [u64; 32],
+    known: &mut [u32; 1024],
+    topics: &[u8; 64],
+    origins: &[u8; 64],
+    events: &[u8],
+    produced: &mut u64,
+    forwards: &mut u64,
+    deliveries: &mut u64,
+) -> Answer
+    requires { ⌜ (length (now state) ≡ 5120) × Rows (table (now topics) (now origins)) ⌝ }
+    ensures { λ r. ⌜ Ends r (now (state .exit)) (tally (now (produced .exit)) (now (forwards .exit)) (now (deliveries .exit)))
+        (written (runAll (now (events .entry)) (table (now (topics .entry)) (now (origins .entry)))
+        (mk present (now (pubs .entry)) (now (subs .entry)) (now (neighbours .entry)) (now (pending .entry)) (now (seen .entry)) (now (known .entry))))) ⌝ }
+{
+    let mut here = present;
+    let ended = run_parts(
+        &mut here,
+        &mut *pubs,
+        &mut *subs,
+        &mut *neighbours,
+        &mut *pending,
+        &mut *seen,
+        &mut *known,
+        topics,
+        origins,
+        events,
+        &mut *produced,
+        &mut *forwards,
+        &mut *deliveries,
+    );
+    network::save(
+        here,
+        &*pubs,
+        &*subs,
+        &*neighbours,
+        &*pending,
+        &*seen,
+        &*known,
+        &mut *state,
+    );
+    ended
+}
+
 // The run on bytes: refused before any event with everything untouched, or the events are run and the state is written. The network
 // is read into arrays of this function's own, run on there and written from there: it is never copied. The three counts are the
 // host's own, lent one by one.
@@ -204,18 +259,14 @@ pub(crate) fn run_core(
         &mut known,
     );
     if begun.number != 0 {
-        return Answer {
-            number: begun.number,
-            place: begun.place,
-            accepted: 0,
-        };
+        return answer(begun.number, begun.place, 0);
     }
-    let mut present = begun.present;
     let rows = begun.table;
     let topics = rows.topics;
     let origins = rows.origins;
-    let answer = run_parts(
-        &mut present,
+    run_saved(
+        state,
+        begun.present,
         &mut pubs,
         &mut subs,
         &mut neighbours,
@@ -225,19 +276,8 @@ pub(crate) fn run_core(
         &topics,
         &origins,
         events,
-        &mut *produced,
-        &mut *forwards,
-        &mut *deliveries,
-    );
-    network::save(
-        present,
-        &pubs,
-        &subs,
-        &neighbours,
-        &pending,
-        &seen,
-        &known,
-        &mut *state,
-    );
-    answer
+        produced,
+        forwards,
+        deliveries,
+    )
 }

@@ -1,6 +1,6 @@
 -- `engine::alone::relay_copy` meets its contract. Assumes nothing.
 use borrow.Author.Needs.{needs}
-use Rattle.engine.specs.AloneLaws.{copy-refused, copy-short, copy-done}
+use Rattle.engine.specs.AloneLaws.{copy-refused, copy-short, copy-done, answered-as}
 use Rattle.engine.specs.Lent.{looked-is, looked-net}
 use Rattle.engine.proofs.alone.relay_copy.Statement.{statement}
 use Rattle.engine.proofs.alone.relay_copy.Tie as tie
@@ -8,21 +8,46 @@ use Rattle.engine.proofs.alone.relay_copy.Tie as tie
 open-requires : tie.Need-open-requires
 open-requires c κs = search needs
 
+answer-requires : tie.Need-answer-requires
+answer-requires c κs = search needs
+
 returns : tie.Need-returns
-returns c = copy-refused _ _ (looked-is _ (c .before .before .«open» .ensures)) (c .if1 .taken)
+returns c = answered-as (c .answer .ensures) (copy-refused _ _ (looked-is _ (c .before .before .before .«open» .ensures)) (c .before .if1 .taken))
+
+answer-requires-2 : tie.Need-answer-requires-2
+answer-requires-2 c κs = search needs
 
 returns-2 : tie.Need-returns-2
-returns-2 c = copy-short _ _ (looked-is _ (c .before .before .before .«open» .ensures)) (c .before .if1 .left) (c .if2 .taken)
+returns-2 c =
+    let at = c .before .before .before .before in
+    answered-as (c .answer2 .ensures) (copy-short _ _ (looked-is _ (at .«open» .ensures)) (c .before .before .if1 .left) (c .before .if2 .taken))
 
 save-requires : tie.Need-save-requires
 save-requires c κs = search needs
+
+answer-requires-3 : tie.Need-answer-requires-3
+answer-requires-3 c κs = search needs
 
 same-length : tie.Need-same-length
 same-length c = search needs
 
 returns-3 : tie.Need-returns-3
-returns-3 c = let z = (c .before .before .before .before .before .before .before .before .before .before .before .if1 .left) in copy-done _ _ _ (looked-net _ (c .before .before .before .before .before .before .before .before .before .before .before .before .before .«open» .ensures) z) z (c .before .before .before .before .before .before .before .before .before .before .if2 .left) (c .before .before .save .ensures)
+returns-3 c =
+    let long = c .before .before .before .before .before .before .before .before .before .before .before in
+    let z = long .before .if1 .left in
+    let at = long .before .before .before in
+    answered-as (c .answer3 .ensures) (copy-done _ _ _ (looked-net _ (at .«open» .ensures) z) z (long .if2 .left) (c .before .before .before .save .ensures))
 
 pub relay-copy-spec : {M : Type 1} → statement M
 relay-copy-spec =
-    tie.close (tie.spec open-requires returns returns-2 save-requires same-length returns-3)
+    tie.close
+    (tie.spec
+    open-requires
+    answer-requires
+    returns
+    answer-requires-2
+    returns-2
+    save-requires
+    answer-requires-3
+    same-length
+    returns-3)

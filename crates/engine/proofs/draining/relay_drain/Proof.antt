@@ -18,18 +18,29 @@ returns : tie.Need-returns
 returns c = drain-refused _ _ _ (c .before .before .before .start .ensures) (c .before .if1 .taken) (c .refused .ensures)
 
 drain-all-requires : tie.Need-drain-all-requires
-drain-all-requires c κs = started-rows _ _ _ (c .before .before .before .before .before .before .before .before .start .result) _ (c .before .before .before .before .before .before .before .before .start .ensures) .topics-fit
+drain-all-requires c κs = let at = c .before .before .before .before .before .before .before .before in started-rows _ _ _ (at .start .result) _ (at .start .ensures) .topics-fit
 
 save-requires : tie.Need-save-requires
-save-requires c κs = started-long _ _ _ (c .before .before .before .before .before .before .before .before .before .before .before .before .before .before .before .before .start .result) _ (c .before .before .before .before .before .before .before .before .before .before .before .before .before .before .before .before .start .ensures) (c .before .before .before .before .before .before .before .before .before .before .before .before .before .before .if1 .left)
+save-requires c κs =
+    let read = c .before .before .before .before .before .before .before .before .before .before .before .before .before .before in
+    let at = read .before .before in
+    started-long _ _ _ (at .start .result) _ (at .start .ensures) (read .if1 .left)
+
+done-requires : tie.Need-done-requires
+done-requires c κs = search needs
 
 same-length-2 : tie.Need-same-length-2
 same-length-2 c = search needs
 
 returns-2 : tie.Need-returns-2
 returns-2 c =
-    let z = (c .before .before .before .before .before .before .before .before .before .before .before .before .before .before .before .before .before .if1 .left) in
-    drain-done _ _ _ _ (λ i. c .before .before .before .before .before .before .before .before .before .before .before .before .before .before .before .before .before .before .before .before .before .before .before .before .before .before .before .before .slice-known .given i .fits) (started _ _ _ (c .before .before .before .before .before .before .before .before .before .before .before .before .before .before .before .before .before .before .before .start .result) _ (c .before .before .before .before .before .before .before .before .before .before .before .before .before .before .before .before .before .before .before .start .ensures) z) z (c .before .before .before .before .before .before .before .before .before .before .drain-all .ensures) (c .before .before .save .ensures)
+    let drained = c .before .before .before .before .before .before .before .before .before .before .before in
+    let read = drained .before .before .before .before .before .before .before in
+    let at = read .before .before in
+    let bytes = at .before .before .before .before .before .before .before .before .before in
+    let z = read .if1 .left in
+    drain-done _ _ _ _ (λ i. bytes .slice-known .given i .fits) (started _ _ _ (at .start .result) _ (at .start .ensures) z) z (drained .drain-all .ensures)
+    (c .before .before .before .save .ensures) (c .done .ensures)
 
 pub relay-drain-spec : {M : Type 1} → statement M
 relay-drain-spec =
@@ -41,5 +52,6 @@ relay-drain-spec =
     returns
     drain-all-requires
     save-requires
+    done-requires
     same-length-2
     returns-2)

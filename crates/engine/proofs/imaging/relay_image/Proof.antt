@@ -1,6 +1,7 @@
 -- `engine::imaging::relay_image` meets its contract. Assumes nothing.
 use borrow.Author.Needs.{needs}
 use Rattle.broadcastnet.specs.CommitLaws.{imageNet-made}
+use Rattle.engine.specs.AloneLaws.{answered-as}
 use Rattle.engine.specs.ImagingLaws.{image-refused, image-short, image-done}
 use Rattle.engine.specs.Lent.{looked-is, looked-net}
 use Rattle.engine.proofs.imaging.relay_image.Statement.{statement}
@@ -9,11 +10,19 @@ use Rattle.engine.proofs.imaging.relay_image.Tie as tie
 open-requires : tie.Need-open-requires
 open-requires c κs = search needs
 
+answer-requires : tie.Need-answer-requires
+answer-requires c κs = search needs
+
 returns : tie.Need-returns
-returns c = image-refused _ _ (looked-is _ (c .before .before .«open» .ensures)) (c .if1 .taken)
+returns c = answered-as (c .answer .ensures) (image-refused _ _ (looked-is _ (c .before .before .before .«open» .ensures)) (c .before .if1 .taken))
+
+answer-requires-2 : tie.Need-answer-requires-2
+answer-requires-2 c κs = search needs
 
 returns-2 : tie.Need-returns-2
-returns-2 c = image-short _ _ (looked-is _ (c .before .before .before .«open» .ensures)) (c .before .if1 .left) (c .if2 .taken)
+returns-2 c =
+    let at = c .before .before .before .before in
+    answered-as (c .answer2 .ensures) (image-short _ _ (looked-is _ (at .«open» .ensures)) (c .before .before .if1 .left) (c .before .if2 .taken))
 
 underway-requires : tie.Need-underway-requires
 underway-requires c κs = search needs
@@ -24,23 +33,33 @@ settled-requires c κs = search needs
 save-requires : tie.Need-save-requires
 save-requires c κs = search needs
 
+answer-requires-3 : tie.Need-answer-requires-3
+answer-requires-3 c κs = search needs
+
 same-length : tie.Need-same-length
 same-length c = search needs
 
 returns-3 : tie.Need-returns-3
 returns-3 c =
-    let z = (c .before .before .before .before .before .before .before .before .before .before .before .before .before .if1 .left) in
-    image-done _ _ _ (looked-net _ (c .before .before .before .before .before .before .before .before .before .before .before .before .before .before .before .«open» .ensures) z) z (c .before .before .before .before .before .before .before .before .before .before .before .before .if2 .left) (imageNet-made _ (c .before .before .before .before .before .before .before .before .before .before .before .underway .ensures) (c .before .before .before .before .before .before .before .before .before .before .settled .ensures)) (c .before .before .save .ensures)
+    let made = c .before .before .before .before .before .before .before .before .before .before .before in
+    let long = made .before .before in
+    let z = long .before .if1 .left in
+    let at = long .before .before .before in
+    answered-as (c .answer3 .ensures)
+    (image-done _ _ _ (looked-net _ (at .«open» .ensures) z) z (long .if2 .left) (imageNet-made _ (made .before .underway .ensures) (made .settled .ensures)) (c .before .before .before .save .ensures))
 
 pub relay-image-spec : {M : Type 1} → statement M
 relay-image-spec =
     tie.close
     (tie.spec
     open-requires
+    answer-requires
     returns
+    answer-requires-2
     returns-2
     underway-requires
     settled-requires
     save-requires
+    answer-requires-3
     same-length
     returns-3)

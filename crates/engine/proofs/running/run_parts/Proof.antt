@@ -8,6 +8,7 @@ use Rattle.floodnet.specs.CodeForward.{table}
 use Rattle.engine.specs.Run.{tally, zeroTally, runFrom, runAll}
 use Rattle.engine.specs.RunSound.{reads-fit}
 use Rattle.engine.specs.Going.{Going, going-start, going-room}
+use Rattle.engine.specs.RunEnds.{runs-as}
 use Rattle.engine.specs.Looping.{ran-stop, ran-on, ran-end}
 use Rattle.engine.proofs.running.run_parts.Statement.{statement}
 use Rattle.engine.proofs.running.run_parts.Tie as tie
@@ -28,6 +29,10 @@ head c = c .before .before .before .before .before .before .before .before .befo
 abbrev start : tie.At-loop Inv-loop μ-loop → tie.Start Inv-loop μ-loop
 start h = h .before .before
 
+-- the loop's test held
+test : (c : tie.After-event-at Inv-loop μ-loop) → c .before .before .before .before .before .before .before .before .before .loop .place < length (start (head c) .args .events .now) / 16
+test c = c .before .before .before .before .before .before .before .before .loop-test .taken
+
 -- the event bytes are fewer than 2 ^ 63
 small : (h : tie.At-loop Inv-loop μ-loop) → 32 * (length (start h .args .events .now) / 16) < 2 ^ 64
 small h = omega (arith, start h .good .1 .1 .1 .1 .1 .1 .1 .1 .1 .0 .1)
@@ -43,35 +48,41 @@ turn-requires c κs =
     let h = head c in
     (rw (c .event-at .ensures) (reads-fit _ (λ i. h .before .shared-slice-known .given i .fits) _), start h .pre)
 
+answer-requires : tie.Need-answer-requires Inv-loop μ-loop
+answer-requires c κs = search needs
+
 returns : tie.Need-returns Inv-loop μ-loop
 unfolding runAll
 returns c =
-    let e = c .before .before in
-    ran-stop _ _ _ (head e .loop .inv) (e .before .before .before .before .before .before .before .before .loop-test .taken) (e .event-at .ensures) _ _ (c .before .turn .ensures) (c .if1 .taken)
+    let e = c .before .before .before in
+    runs-as (c .answer .ensures) (ran-stop _ _ _ (head e .loop .inv) (test e) (e .event-at .ensures) _ _ (c .before .before .turn .ensures) (c .before .if1 .taken))
 
 count-in-requires : tie.Need-count-in-requires Inv-loop μ-loop
 count-in-requires c κs =
     let u = c .before .before .before .before in
     let e = u .before in
-    going-room _ _ _ (head e .loop .inv) (e .before .before .before .before .before .before .before .before .loop-test .taken) (small (head e)) _ (u .turn .ensures .1 .1)
+    going-room _ _ _ (head e .loop .inv) (test e) (small (head e)) _ (u .turn .ensures .1 .1)
 
 add-place : tie.Need-add-place Inv-loop μ-loop
 add-place c =
     let e = c .before .before .before .before .before .before in
-    record { fits = omega (arith, e .before .before .before .before .before .before .before .before .loop-test .taken, small (head e)) }
+    record { fits = omega (arith, test e, small (head e)) }
 
 loop-less : tie.Need-loop-less Inv-loop μ-loop
-loop-less c = let e = c .before .before .before .before .before .before in omega (arith, e .before .before .before .before .before .before .before .before .loop-test .taken)
+loop-less c = let e = c .before .before .before .before .before .before in omega (arith, test e)
 
 loop-again : tie.Need-loop-again Inv-loop μ-loop
 loop-again c =
     let u = c .before .before .before .before .before in
     let e = u .before in
-    ran-on _ _ _ (head e .loop .inv) (e .before .before .before .before .before .before .before .before .loop-test .taken) (e .event-at .ensures) _ _ (u .turn .ensures) (c .before .before .before .before .if1 .left) _ (c .count-in .ensures)
+    ran-on _ _ _ (head e .loop .inv) (test e) (e .event-at .ensures) _ _ (u .turn .ensures) (c .before .before .before .before .if1 .left) _ (c .count-in .ensures)
+
+answer-requires-2 : tie.Need-answer-requires-2 Inv-loop μ-loop
+answer-requires-2 c κs = search needs
 
 returns-2 : tie.Need-returns-2 Inv-loop μ-loop
 unfolding runAll
-returns-2 c = ran-end _ _ _ (c .before .loop .inv) (c .loop-test .left)
+returns-2 c = runs-as (c .answer2 .ensures) (ran-end _ _ _ (c .before .before .loop .inv) (c .before .loop-test .left))
 
 pub run-parts-spec : {M : Type 1} → statement M
 run-parts-spec =
@@ -82,9 +93,11 @@ run-parts-spec =
     loop-holds
     event-at-requires
     turn-requires
+    answer-requires
     returns
     count-in-requires
     add-place
     loop-less
     loop-again
+    answer-requires-2
     returns-2)

@@ -1,0 +1,67 @@
+-- `engine::alone::forward_saved` meets its contract. Assumes nothing.
+use borrow.Author.Needs.{needs}
+use native.Mathlib.Omega.{arith}
+use Rattle.network.specs.Network.{bare, withPubs, withSubs, withNeighbours}
+use Rattle.engine.specs.ForwardAlone.{forward-peer, forward-message, forward-refused, forward-done}
+use Rattle.engine.proofs.alone.forward_saved.Statement.{statement}
+use Rattle.engine.proofs.alone.forward_saved.Tie as tie
+
+forwarded-requires : tie.Need-forwarded-requires
+forwarded-requires c κs = search needs
+
+returns : tie.Need-returns
+returns c = λ os. forward-peer _ _ _ _ _ (c .forwarded .ensures) (c .before .if1 .taken)
+
+forwarded-requires-2 : tie.Need-forwarded-requires-2
+forwarded-requires-2 c κs = search needs
+
+returns-2 : tie.Need-returns-2
+returns-2 c = λ os. forward-message _ _ _ _ _ (c .forwarded2 .ensures) (c .before .before .if1 .left) (c .before .if2 .taken)
+
+forward-requires : tie.Need-forward-requires
+forward-requires c κs =
+    let start = c .before .before .before .before .before in
+    (omega (arith, c .before .before .before .if1 .left), omega (arith, c .before .before .if2 .left), start .pre .1 _)
+
+forwarded-requires-3 : tie.Need-forwarded-requires-3
+forwarded-requires-3 c κs = search needs
+
+returns-3 : tie.Need-returns-3
+returns-3 c =
+    let sent = c .before .before .before in
+    let second = sent .before .before .before in
+    λ os. forward-refused _ _ _ _ _ (c .forwarded3 .ensures) (second .before .if1 .left) (second .if2 .left) (sent .forward .ensures (withPubs (withSubs (withNeighbours bare _) _) _) os .answer) (c .before .if3 .taken)
+
+save-requires : tie.Need-save-requires
+save-requires c κs = search needs
+
+forwarded-requires-4 : tie.Need-forwarded-requires-4
+forwarded-requires-4 c κs = search needs
+
+same-length : tie.Need-same-length
+same-length c = search needs
+
+returns-4 : tie.Need-returns-4
+returns-4 c =
+    let accepted = c .before .before .before .before .before .before .before in
+    let sent = accepted .before .before in
+    let second = sent .before .before .before in
+    λ os.
+    let done = sent .forward .ensures (withPubs (withSubs (withNeighbours bare _) _) _) os in
+    forward-done _ _ _ _ _ (c .forwarded4 .ensures) (second .before .if1 .left) (second .if2 .left) (done .answer) (done .state) (accepted .if3 .left) (c .before .before .before .save .ensures)
+
+pub forward-saved-spec : {M : Type 1} → statement M
+forward-saved-spec =
+    tie.close
+    (tie.spec
+    forwarded-requires
+    returns
+    forwarded-requires-2
+    returns-2
+    forward-requires
+    forwarded-requires-3
+    returns-3
+    save-requires
+    forwarded-requires-4
+    same-length
+    returns-4)

@@ -1,6 +1,6 @@
 -- Broadcastnet, the published model's specification of a relay (document 004, section 2.1 and, for the partial broadcast, section 3): no
--- neighbours and nothing under way; a message is at once with all who receive it. Each definition stands under the code that 004 prints
--- for it. Peers, topics, messages, sets and the message table are those of document 01 (crate network). Assumes nothing.
+-- neighbours and nothing under way; a message is at once with all who receive it. Over each definition stands the name that it has in 004,
+-- and in our own words what it does there. Peers, topics, messages, sets and the message table are those of document 01 (crate network). Assumes nothing.
 use mathlib.Core.Path.{_≡_}
 use mathlib.Core.Bool.{Bool, true, false, _&&_, _||_}
 use mathlib.Core.List.{List}
@@ -17,9 +17,8 @@ use Rattle.network.specs.Network.{peer, topicOf, originOf}
 
 -- ---- the state
 
--- "a map from peers to their corresponding peer-states", and "A Broadcastnet peer state is a record consisting of (i) pubs : the set of
--- topics in which a peer publishes, (ii) subs : the set of topics to which a peer subscribes to, and (iii) seen : the set of messages a peer
--- has already processed." Who is in the map is `present`; a peer that is not has 0 at its place of each list.
+-- 004 keeps a record for each peer that is in the network: the topics in which it publishes, those to which it subscribes, and the messages
+-- that it has taken in. Here who is in the network is `present`; a peer that is not has 0 at its place of each list.
 pub record Broadcastnet : Type 0 where
   pub present : ℕ
   pub pubs : List ℕ
@@ -45,55 +44,41 @@ sawIn s p m = has (getD (s .seen) (p .0) 0) (m .0)
 
 -- ---- the transitions
 
--- (definecd broadcast-partial (m :mssg ps :lop s :s-bn) :s-bn
---  :ic (new-bn-mssgp m s)
---  (broadcast-partial-help m ps s))
--- where broadcast-partial-help puts m into :seen of each peer of ps: "given a message and a list of peers, sends the message to those peers"
+-- broadcast-partial: each of the peers named has seen m; nobody else is touched
 unfoldable pub broadcastPartial : Message → ℕ → Broadcastnet → Broadcastnet
 broadcastPartial m who s = bn (s .present) (s .pubs) (s .subs) (edit (λ q w. withIf (has who q) (m .0) w) (s .seen))
 
--- Those whom a broadcast of m reaches: "all subscribers receive the message simultaneously", and its origin has it.
+-- Those whom a full broadcast of m reaches: its origin, and whoever is present and subscribes to its topic.
 unfoldable pub audience : Table → Message → Broadcastnet → ℕ
 audience b m s = setOf 32 (λ (q : ℕ). presentIn s (peer q) && (eqb q (originOf b m .0) || subscribedIn s (peer q) (topicOf b m)))
 
--- (definecd broadcast (m :mssg s :s-bn) :s-bn
---   :ic (broadcast-bn-pre m s)
---   (broadcast-help m s))
+-- broadcast: all of these have seen m at once
 unfoldable pub broadcast : Table → Message → Broadcastnet → Broadcastnet
 broadcast b m s = broadcastPartial m (audience b m s) s
 
--- (definecd subscribe-bn (p :peer topics :lot s :s-bn) :s-bn
--- :ic (mget p s)
---  (let ((pst (mget p s)))
---       (mset p (mset :subs (union-equal (mget :subs pst) topics) pst) s)))
+-- subscribe-bn: the topics join those that p subscribes to
 unfoldable pub subscribe : Peer → ℕ → Broadcastnet → Broadcastnet
 subscribe p topics s = bn (s .present) (s .pubs) (set (s .subs) (p .0) (union (getD (s .subs) (p .0) 0) topics)) (s .seen)
 
--- "The definition of unsubscribe-bn is analogous to that of subscribe-bn and is hence omitted."
+-- unsubscribe-bn, which 004 leaves out as being alike: the topics leave those that p subscribes to
 unfoldable pub unsubscribe : Peer → ℕ → Broadcastnet → Broadcastnet
 unsubscribe p topics s = bn (s .present) (s .pubs) (set (s .subs) (p .0) (minus (getD (s .subs) (p .0) 0) topics)) (s .seen)
 
--- (definecd join-bn (p :peer pubs subs :lot s :s-bn) :s-bn
---   :ic (! (mget p s)) ;; Join only if peer does not already exist in state
---  (mset p (ps-bn pubs subs '()) s))
+-- join-bn: a peer that was not in the network is, with these topics, and has seen nothing
 unfoldable pub join : Peer → ℕ → ℕ → Broadcastnet → Broadcastnet
 join p pubs subs s = bn (union (s .present) (only (p .0))) (set (s .pubs) (p .0) pubs) (set (s .subs) (p .0) subs) (set (s .seen) (p .0) 0)
 
--- (definecd leave-bn (p :peer s :s-bn) :s-bn
---  :ic (mget p s) ;; Leave only if peer already exists in state
--- and then the entry of p is no longer in the map
+-- leave-bn: a peer that was in the network is no longer, and nothing of it is kept
 unfoldable pub leave : Peer → Broadcastnet → Broadcastnet
 leave p s = bn (minus (s .present) (only (p .0))) (set (s .pubs) (p .0) 0) (set (s .subs) (p .0) 0) (set (s .seen) (p .0) 0)
 
 -- ---- the transition relation
 
--- (definecd new-bn-mssgp (m :mssg s :s-bn) :bool ..: m is "not already found in the seen set of any of the peers in s"
+-- new-bn-mssgp: no peer has seen m
 abbrev pub NewIn : Broadcastnet → Message → Type 0
 NewIn s m = (q : Peer) → sawIn s q m ≡ false
 
--- (definec broadcast-bn-pre (m :mssg s :s-bn) :bool ..
--- "(i) the broadcast message is new [..], (ii) the originating peer of the message exists in s, and (iii) the topic of the broadcast message
--- is one in which the originating peer publishes messages"
+-- broadcast-bn-pre, what a full broadcast asks: the message is new, its origin is in the network and publishes its topic
 pub record MayBroadcast (b : Table) (s : Broadcastnet) (m : Message) : Type 0 where
   pub new : NewIn s m
   pub origin : presentIn s (originOf b m) ≡ true
@@ -104,10 +89,7 @@ pub record MayBroadcastPartly (s : Broadcastnet) (m : Message) (who : ℕ) : Typ
   pub new : NewIn s m
   pub peers : Subset who (s .present)
 
--- (definec rel-step-bn (s u :s-bn) :bool
---   (v (rel-skip-bn s u) (rel-broadcast-bn s u) (rel-broadcast-partial-bn s u) (rel-subscribe-bn s u)
---      (rel-unsubscribe-bn s u) (rel-leave-bn s u) (rel-leave-bn s u) (rel-join-bn s u)))
--- s goes to u in one step. What 004 has to find by a witness function, the message or the peer and its topics, each case names.
+-- rel-step-bn, the transition relation: s goes to u in one step. What 004 has to find by a witness function, the message or the peer and its topics, each case names.
 pub data Step (b : Table) (s u : Broadcastnet) : Type 0 where
   rel-skip : u ≡ s → Step b s u
   rel-broadcast : (m : Message) → MayBroadcast b s m → u ≡ broadcast b m s → Step b s u

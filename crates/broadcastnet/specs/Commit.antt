@@ -1,7 +1,6 @@
 -- The commitment map (document 01, "Commitment map"): "The image keeps presence, pubs and subs, and from every seen set removes each message
 -- pending at any peer (the commitment map of 004). It is written to a second lent buffer as 32 peer records whose neighbours, pending and
--- known subscribers are zero." In 004 it is f2b, "mapping to states consisting of only those messages that have been fully propagated in
--- Floodnet and are thus considered committed." Assumes nothing.
+-- known subscribers are zero." In 004 it is f2b: a message that is still under way anywhere does not show. Assumes nothing.
 use mathlib.Core.Bool.{Bool}
 use mathlib.Core.List.{List}
 use Prim.Native.Nat.{ℕ, zero, suc}

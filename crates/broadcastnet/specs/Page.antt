@@ -83,7 +83,7 @@ Path b s (v ∷ l) u = Step b s v × Path b v l u
 
 -- ---- what is promised
 
--- 004's relation of a Floodnet state and a Broadcastnet state: (definec rel-wf (x y :borf) :bool (^ (s-fnp x) (s-bnp y) (good-s-fnp x) (== y (f2b x))))
+-- 004's rel-wf, the relation of a Floodnet state and a Broadcastnet state: the first is sound, and the second is its image
 pub record Related (n : Network) (w : Broadcastnet) : Type 0 where
   pub sound : Sound n
   pub shown : w ≡ image n

@@ -26,7 +26,7 @@ unfoldable pub together : ℕ → List ℕ → ℕ
 together zero l = 0
 together (suc k) l = union (together k l) (getD l k 0)
 
--- (definec fn-pending-mssgs (s :s-fn) :lom ..: the messages pending at any peer
+-- fn-pending-mssgs: the messages pending at any peer
 unfoldable pub underway : Network → ℕ
 underway n = together 32 (n .pending)
 

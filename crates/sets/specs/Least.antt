@@ -4,7 +4,9 @@ use mathlib.Core.Logic.{_⊎_, inl, inr}
 use mathlib.Core.Bool.{Bool, true, false, cond, not}
 use Prim.Native.Nat.{ℕ, zero, suc, _+_, _≤_, _<_}
 use native.Mathlib.Omega.{arith}
-use Rattle.sets.specs.Bools.{clash, not-false, not-no, below-suc}
+use lib.Dec.{eqb}
+use borrow.Author.Tests.{eq-eqb, eqb-true}
+use Rattle.sets.specs.Bools.{clash, bool-ext, not-no, below-suc}
 use Rattle.sets.specs.Any.{all, all-yes, all-why}
 
 -- the least number below n of which f is true; n where there is none
@@ -67,11 +69,11 @@ lowestOf-same (suc n) f g h = rw (h 0 (omega arith)) (ap (λ (m : ℕ). cond (g 
 pub lowestOf-all : (n : ℕ) (f : ℕ → Bool) → all n f ≡ true → lowestOf n (λ (i : ℕ). not (f i)) ≡ n
 lowestOf-all n f h = lowestOf-none n _ λ i b. ap not (all-why n f h i b)
 
-pub all-of-lowest : (n : ℕ) (f : ℕ → Bool) → lowestOf n (λ (i : ℕ). not (f i)) ≡ n → all n f ≡ true
-all-of-lowest n f h = all-yes n f λ i b. not-no (f i) (lowestOf-least n (λ (j : ℕ). not (f j)) i (omega arith))
-
-pub not-all-of-lowest : (n : ℕ) (f : ℕ → Bool) → (lowestOf n (λ (i : ℕ). not (f i)) ≡ n → ⊥) → all n f ≡ false
-not-all-of-lowest n f h = not-false λ e. h (lowestOf-all n f e)
+pub lowestOf-is-all : (n : ℕ) (f : ℕ → Bool) → eqb (lowestOf n (λ (i : ℕ). not (f i))) n ≡ all n f
+lowestOf-is-all n f =
+    bool-ext
+    (λ h. let e = eqb-true (lowestOf n (λ (i : ℕ). not (f i))) n h in all-yes n f λ i b. not-no (f i) (lowestOf-least n (λ (j : ℕ). not (f j)) i (omega arith)))
+    (λ h. eq-eqb _ n (lowestOf-all n f h))
 
 -- ---- a loop that walks up from 0 and stops at the first that passes: it keeps q ≡ lowestOf q f
 

@@ -1,14 +1,17 @@
 -- The loop that asks each neighbour of p whether it lists p. Assumes nothing.
-use mathlib.Core.Path.{_≡_, refl, ap, _∙_}
-use mathlib.Core.Bool.{Bool, true, false, not, _||_}
+use mathlib.Core.Path.{_≡_, sym, ap, _∙_}
+use mathlib.Core.Bool.{true, false, not}
 use mathlib.Core.List.{List}
 use Prim.Native.Nat.{ℕ, _^_, _<_}
 use lib.ListN.{getD}
 use Rattle.sets.specs.Set.{has, minus, only, Subset, lowest}
 use Rattle.sets.specs.Bounds.{minus-lt}
-use Rattle.sets.specs.Lowest.{lowest-has, lowest-lt}
-use Rattle.sets.specs.Any.{all-yes, all-no}
+use Rattle.sets.specs.Bools.{and-both, and-no}
+use Rattle.sets.specs.Members.{has-minus}
+use Rattle.sets.specs.Least.{lowestOf-is, lowestOf-none}
+use Rattle.sets.specs.Lowest.{lowest-has, lowest-lt, lowest-least}
 use Rattle.sets.specs.Visits.{subset-self, subset-step, visited-none, visited-more, visited-all}
+use Rattle.network.specs.declared.Peer.{Peer}
 use Rattle.network.specs.Tests.{listBack}
 
 -- What the loop keeps: of the peers listed some are left, and the others list p.
@@ -32,19 +35,16 @@ backs-more {neighbours} {listed} {p} {left} {left′} {q} b some eq el h =
     }
 
 -- none is left
-pub backs-all : {neighbours : List ℕ} {listed p left : ℕ} → Backs neighbours listed p left → left ≡ 0 → listBack neighbours listed p ≡ true
+pub backs-all : {neighbours : List ℕ} {listed left : ℕ} {p : Peer} → Backs neighbours listed (p .0) left → left ≡ 0 → 32 ≡ listBack neighbours listed p
 unfolding listBack
-backs-all {neighbours} {listed} {p} {left} b e =
-    all-yes 32 _ λ q l. go q (has listed q) (visited-all listed left (λ (i : ℕ). has (getD neighbours i 0) p ≡ true) e (b .back) q)
-  where
-    go : (q : ℕ) (x : Bool) → (x ≡ true → has (getD neighbours q 0) p ≡ true) → not x || has (getD neighbours q 0) p ≡ true
-    go q true f = f refl
-    go q false f = refl
+backs-all {neighbours} {listed} {left} {p} b e =
+    sym (lowestOf-none 32 _ λ q l. and-no (has listed q) _ λ h. ap not (visited-all listed left (λ (i : ℕ). has (getD neighbours i 0) (p .0) ≡ true) e (b .back) q h))
 
--- the least of those left doesn't list p
-pub backs-not : {neighbours : List ℕ} {listed p left q : ℕ} → Backs neighbours listed p left → 0 < left → q ≡ lowest 32 left
-    → has (getD neighbours q 0) p ≡ false → listBack neighbours listed p ≡ false
+-- the least of those left doesn't list p: those below it that are listed do
+pub backs-not : {neighbours : List ℕ} {listed left q : ℕ} {p : Peer} → Backs neighbours listed (p .0) left → 0 < left → q ≡ lowest 32 left
+    → has (getD neighbours q 0) (p .0) ≡ false → q ≡ listBack neighbours listed p
 unfolding listBack Subset
-backs-not {neighbours} {listed} {p} {left} {q} b some eq h =
-    all-no 32 _ q (rw eq (lowest-lt 32 left some (b .below)))
-    (ap (λ (x : Bool). not x || has (getD neighbours q 0) p) (b .within q (rw eq (lowest-has 32 left some (b .below)))) ∙ h)
+backs-not {neighbours} {listed} {left} {q} {p} b some eq h =
+    sym (lowestOf-is 32 _ q (rw eq (lowest-lt 32 left some (b .below)))
+    (and-both (b .within q (rw eq (lowest-has 32 left some (b .below)))) (ap not h))
+    λ j l. and-no (has listed j) _ λ e. ap not (b .back j (has-minus listed left j ∙ and-both e (ap not (lowest-least 32 left j (rw eq at l))))))

@@ -7,12 +7,13 @@ use native.Mathlib.Omega.{arith}
 use lib.Dec.{eqb}
 use lib.ListN.{getD}
 use borrow.Author.Tests.{le-ltb, eq-eqb, eqb-true}
-use Rattle.sets.specs.Bools.{not-false, and-both, and-yes, ne-eqb}
-use Rattle.sets.specs.Least.{lowestOf, lowestOf-on, lowestOf-found}
+use Rattle.sets.specs.Bools.{not-false, not-no, and-both, and-yes, ne-eqb}
+use Rattle.sets.specs.Least.{lowestOf, lowestOf-least, lowestOf-none, lowestOf-same, lowestOf-on, lowestOf-found}
 use Rattle.sets.specs.Any.{all, all-yes, all-why}
+use Rattle.lists.specs.Tab.{tab, getD-tab}
 use Rattle.network.specs.declared.Peer.{Peer}
 use Rattle.network.specs.declared.Network.{Network}
-use Rattle.network.specs.Network.{peer, mk, topic, pubsOf, subsOf, neighboursOf, pendingOf, seenOf, knownOf}
+use Rattle.network.specs.Network.{peer, topic, pubsOf, subsOf, neighboursOf, pendingOf, seenOf, knownOf}
 use Rattle.network.specs.Sound.{Empty}
 use Rattle.network.specs.Rules.{emptyRight, ownRight, nearRight, backRight, knownRight, apartRight, unless, absentFault, presentFault, faultOf, faulty, lowestBy}
 
@@ -103,27 +104,32 @@ module _ (n : Network) (p : Peer) where
   unfolding faultOf
   fault-present h e = rw e
 
--- who else is present plays no part in an absent record's fault, nor p's pubs in a present one's
-pub absent-same : (k present : ℕ) (pubs subs neighbours pending seen known : List ℕ) (p : Peer)
-    → absentFault (mk k pubs subs neighbours pending seen known) p ≡ absentFault (mk present pubs subs neighbours pending seen known) p
-unfolding absentFault emptyRight
-absent-same k present pubs subs neighbours pending seen known p = refl
+-- ---- the lowest record with a fault
 
-pub present-same : (present : ℕ) (l pubs subs neighbours pending seen known : List ℕ) (p : Peer)
-    → presentFault (mk present l subs neighbours pending seen known) p ≡ presentFault (mk present pubs subs neighbours pending seen known) p
-unfolding presentFault ownRight nearRight backRight knownRight apartRight
-present-same present l pubs subs neighbours pending seen known p = refl
+module _ (h : ℕ → ℕ) (n : Network) where
+  -- none has: each record keeps its rules, and back
+  pub none-faulty : 32 ≤ lowestBy h n → (p : ℕ) → p < 32 → faultOf (h p) n (peer p) ≡ 0
+  unfolding faulty lowestBy
+  none-faulty l p b = eqb-true _ _ (not-no _ (lowestOf-least 32 (faulty h n) p (omega arith)))
 
--- a loop over the records that stops at the first with a fault: the next has none, or is it
-pub faulty-on : (q : ℕ) (heads : List ℕ) (n : Network) {r : ℕ} → q ≡ lowestOf q (faulty heads n) → r ≡ faultOf (getD heads q 0) n (peer q) → r ≡ 0
-    → q + 1 ≡ lowestOf (q + 1) (faulty heads n)
-unfolding faulty
-faulty-on q heads n k e z = lowestOf-on q (faulty heads n) k (ap not (eq-eqb _ _ (sym e ∙ z)))
+  pub faultless : ((p : ℕ) → p < 32 → faultOf (h p) n (peer p) ≡ 0) → 32 ≡ lowestBy h n
+  unfolding faulty lowestBy
+  faultless e = sym (lowestOf-none 32 (faulty h n) λ p b. ap not (eq-eqb _ _ (e p b)))
 
-pub faulty-found : (q : ℕ) (heads : List ℕ) (n : Network) {r : ℕ} → q ≡ lowestOf q (faulty heads n) → q < 32 → r ≡ faultOf (getD heads q 0) n (peer q) → (r ≡ 0 → ⊥) → q ≡ lowestBy heads n
-unfolding faulty lowestBy
-faulty-found q heads n k b e z = lowestOf-found 32 q (faulty heads n) k b (ap not (ne-eqb λ f. z (e ∙ f)))
+  -- the first words as an array
+  pub lowest-tab : {heads : List ℕ} → heads ≡ tab 32 h → lowestBy (λ (p : ℕ). getD heads p 0) n ≡ lowestBy h n
+  unfolding faulty lowestBy
+  lowest-tab e = rw e (lowestOf-same 32 _ _ λ p l. ap (λ (w : ℕ). not (eqb (faultOf w n (peer p)) 0)) (getD-tab 32 h p l))
 
-pub faulty-none : (q : ℕ) (heads : List ℕ) (n : Network) → q ≡ lowestOf q (faulty heads n) → q ≡ 32 → 32 ≡ lowestBy heads n
-unfolding lowestBy
-faulty-none q heads n k e = rw e at k
+  -- a loop over the records that stops at the first with a fault: the next has none, or is it
+  pub faulty-on : (q : ℕ) {r : ℕ} → q ≡ lowestOf q (faulty h n) → r ≡ faultOf (h q) n (peer q) → r ≡ 0 → q + 1 ≡ lowestOf (q + 1) (faulty h n)
+  unfolding faulty
+  faulty-on q k e z = lowestOf-on q (faulty h n) k (ap not (eq-eqb _ _ (sym e ∙ z)))
+
+  pub faulty-found : (q : ℕ) {r : ℕ} → q ≡ lowestOf q (faulty h n) → q < 32 → r ≡ faultOf (h q) n (peer q) → (r ≡ 0 → ⊥) → q ≡ lowestBy h n
+  unfolding faulty lowestBy
+  faulty-found q k b e z = lowestOf-found 32 q (faulty h n) k b (ap not (ne-eqb λ f. z (e ∙ f)))
+
+  pub faulty-none : (q : ℕ) → q ≡ lowestOf q (faulty h n) → q ≡ 32 → 32 ≡ lowestBy h n
+  unfolding lowestBy
+  faulty-none q k e = rw e at k

@@ -13,6 +13,7 @@ pub mod SameNetwork
 pub mod Listing
 -- what the code does in place of a definition, and that it comes to the same
 pub mod Faults
+pub mod RowWords
 pub mod Tests
 pub mod Joining
 pub mod Backing

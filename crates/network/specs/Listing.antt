@@ -8,12 +8,13 @@ use native.Mathlib.Omega.{arith}
 use lib.Dec.{eqb, ltb}
 use lib.ListN.{length, getD, length-replicate}
 use borrow.Author.Tests.{lt-ltb, le-ltb, eq-eqb, ltb-true, ltb-false, eqb-true}
-use Rattle.sets.specs.Bools.{ne-eqb, and-yes, and-both, not-false, not-no}
+use Rattle.sets.specs.Bools.{ne-eqb, and-yes, and-both, not-no}
 use Rattle.sets.specs.Least.{lowestOf-least}
-use Rattle.lists.specs.Tab.{tab, length-tab, tab-below}
+use Rattle.lists.specs.Tab.{length-tab, tab-below}
+use Rattle.network.specs.declared.Table.{Table}
 use Rattle.network.specs.Network.{Rows}
 use Rattle.network.specs.Zeros.{getD-zeros}
-use Rattle.network.specs.Rows.{byteIn, rowRight, badRow, columns, tableOf, blankTable, listed, listOf}
+use Rattle.network.specs.Rows.{byteIn, rowRight, badRow, tableOf, blankTable, listed, listOf}
 
 -- the first byte of a row
 pub first-byte : (b : List ℕ) (r : ℕ) → getD b (4 * r) 0 ≡ byteIn b r 0
@@ -38,9 +39,6 @@ pub row-is : (b : List ℕ) (r : ℕ) → Right b r → true ≡ rowRight b r
 unfolding rowRight
 row-is b r h = sym (and-both (lt-ltb _ _ (h .topic)) (and-both (lt-ltb _ _ (h .origin)) (and-both (eq-eqb _ _ (h .third)) (eq-eqb _ _ (h .fourth)))))
 
-pub row-not : (b : List ℕ) (r : ℕ) → (Right b r → ⊥) → false ≡ rowRight b r
-row-not b r h = sym (not-false λ e. h (row-why b r e))
-
 -- the three answers
 pub list-2 : (b : List ℕ) → (length b ≡ 256 → ⊥) → listed 2 0 blankTable ≡ listOf b
 unfolding listOf
@@ -50,10 +48,9 @@ pub list-4 : (b : List ℕ) (r : ℕ) → length b ≡ 256 → r ≡ badRow b �
 unfolding listOf
 list-4 b r h e l = rw (eq-eqb (length b) 256 h, lt-ltb (badRow b) 64 (rw e at l), e)
 
-pub list-0 : (b : List ℕ) (r : ℕ) {topics origins : List ℕ} → length b ≡ 256 → r ≡ badRow b → 64 ≤ r → topics ≡ tab 64 (λ (i : ℕ). byteIn b i 0) → origins ≡ tab 64 (λ (i : ℕ). byteIn b i 1)
-    → listed 0 0 (columns topics origins) ≡ listOf b
-unfolding listOf tableOf
-list-0 b r h e l et eo = rw (eq-eqb (length b) 256 h, le-ltb (badRow b) 64 (rw e at l), et, eo)
+pub list-0 : (b : List ℕ) (r : ℕ) {t : Table} → length b ≡ 256 → r ≡ badRow b → 64 ≤ r → t ≡ tableOf b → listed 0 0 t ≡ listOf b
+unfolding listOf
+list-0 b r h e l et = rw (eq-eqb (length b) 256 h, le-ltb (badRow b) 64 (rw e at l), et)
 
 -- ---- what is accepted
 

@@ -1,6 +1,6 @@
 -- What reading answers is sound: the network of every accepted state, and the blank one that a refusal answers. Assumes nothing.
 use mathlib.Core.Path.{_≡_, refl, sym, ap, _∙_}
-use mathlib.Core.Bool.{Bool, true, false, cond, not, _&&_}
+use mathlib.Core.Bool.{Bool, true, false, cond, _&&_}
 use mathlib.Core.List.{List}
 use Prim.Native.Nat.{ℕ, zero, suc, _*_, _+_, _%_, _^_, _≤_, _<_}
 use native.Mathlib.Omega.{arith}
@@ -8,10 +8,9 @@ use lib.Dec.{eqb, ltb}
 use lib.ListN.{length, getD, replicate, length-replicate}
 use borrow.Author.Tests.{ltb-true, ltb-false, eqb-true}
 use Rattle.sets.specs.Set.{has, digit}
-use Rattle.sets.specs.Bools.{clash, not-no}
+use Rattle.sets.specs.Bools.{clash}
 use Rattle.sets.specs.Members.{has-none}
 use Rattle.sets.specs.Build.{setOf-lt, has-setOf}
-use Rattle.sets.specs.Least.{lowestOf-least}
 use Rattle.lists.specs.Tab.{length-tab, tab-below}
 use Rattle.endian.specs.Le.{Bytes, le-lt-4, le-lt-8}
 use Rattle.network.specs.declared.Peer.{Peer}
@@ -19,9 +18,9 @@ use Rattle.network.specs.declared.Network.{Network}
 use Rattle.network.specs.Network.{peer, subscribed, Shaped}
 use Rattle.network.specs.Sound.{Sound}
 use Rattle.network.specs.Rules.{faultOf, headOf}
-use Rattle.network.specs.State.{word, wordIn, long, netOf, faultAt, unsoundAt, blankNet, opened, openOf}
+use Rattle.network.specs.State.{word, wordIn, long, netOf, unsoundAt, blankNet, opened, openOf}
 use Rattle.network.specs.SoundIff.{faults-sound}
-use Rattle.network.specs.Faults.{unless-none}
+use Rattle.network.specs.Faults.{unless-none, none-faulty}
 use Rattle.network.specs.Zeros.{getD-zeros}
 
 -- ---- the network of any bytes has the shape
@@ -69,14 +68,9 @@ head-is b p l h = ap digit (has-setOf 32 (λ (q : ℕ). eqb (wordIn b q 0 % 256)
     go (suc zero) c = refl
     go (suc (suc w)) c = absurd (omega arith)
 
--- every record is sound
-pub none-unsound : (b : List ℕ) → 32 ≤ unsoundAt b → (p : ℕ) → p < 32 → faultAt b (peer p) ≡ 0
-unfolding unsoundAt
-none-unsound b h p l = eqb-true _ _ (not-no _ (lowestOf-least 32 (λ (q : ℕ). not (eqb (faultAt b (peer q)) 0)) p (omega arith)))
-
 pub net-sound : (b : List ℕ) → Bytes b → 32 ≤ unsoundAt b → Sound (netOf b)
 net-sound b h u = faults-sound (net-shaped b h) λ p l.
-    let e = none-unsound b u (p .0) l in
+    let e = none-faulty _ _ u (p .0) l in
     ap (λ (w : ℕ). faultOf w (netOf b) p) (head-is b (p .0) l (fault-head-right _ _ _ e)) ∙ e
 
 -- ---- the blank network

@@ -1,6 +1,5 @@
 -- Reading a state: what the code has worked out is what `openOf` says. Assumes nothing.
-use mathlib.Core.Path.{_≡_, refl, ap, _∙_}
-use mathlib.Core.Bool.{not}
+use mathlib.Core.Path.{_≡_, ap, _∙_}
 use mathlib.Core.List.{List}
 use Prim.Native.Nat.{ℕ, _%_, _≤_, _<_}
 use lib.Dec.{eqb}
@@ -9,13 +8,12 @@ use borrow.Author.Tests.{lt-ltb, le-ltb, eq-eqb}
 use Rattle.sets.specs.Set.{setOf}
 use Rattle.sets.specs.Bools.{ne-eqb}
 use Rattle.sets.specs.Build.{setOf-same}
-use Rattle.sets.specs.Least.{lowestOf-same}
 use Rattle.lists.specs.Tab.{tab, getD-tab}
 use Rattle.network.specs.declared.Network.{Network}
-use Rattle.network.specs.Network.{peer, mk}
-use Rattle.network.specs.Rules.{faultOf, faulty, lowestBy}
-use Rattle.network.specs.declared.Opened.{Opened}
+use Rattle.network.specs.Network.{mk}
+use Rattle.network.specs.Rules.{lowestBy}
 use Rattle.network.specs.declared.Looked.{Looked}
+use Rattle.network.specs.Faults.{lowest-tab}
 use Rattle.network.specs.State.{wordIn, longIn, knownIn, netOf, unsoundAt, blankNet, opened, openOf, openedAs, overOf, Opens}
 
 -- the columns make the network
@@ -36,9 +34,8 @@ net-is b {present} {heads} eh e0 e1 e2 e3 e4 e6 e8 = rw (there, e1, e2, e3, e4, 
     there = e0 ∙ setOf-same 32 _ _ λ p l. ap (λ (w : ℕ). eqb (w % 256) 1) (ap (λ (h : List ℕ). getD h p 0) eh ∙ getD-tab 32 (λ (p : ℕ). wordIn b p 0) p l)
 
 -- the lowest record with a fault
-pub unsound-is : (b : List ℕ) {heads : List ℕ} {n : Network} → heads ≡ tab 32 (λ (p : ℕ). wordIn b p 0) → n ≡ netOf b → lowestBy heads n ≡ unsoundAt b
-unfolding lowestBy faulty unsoundAt
-unsound-is b {heads} {n} eh en = rw (eh, en) (lowestOf-same 32 _ _ λ p l. ap (λ (w : ℕ). not (eqb (faultOf w (netOf b) (peer p)) 0)) (getD-tab 32 (λ (p : ℕ). wordIn b p 0) p l))
+pub unsound-is : (b : List ℕ) {heads : List ℕ} {n : Network} → heads ≡ tab 32 (λ (p : ℕ). wordIn b p 0) → n ≡ netOf b → lowestBy (λ (p : ℕ). getD heads p 0) n ≡ unsoundAt b
+unsound-is b eh en = lowest-tab _ _ eh ∙ ap (lowestBy (λ (p : ℕ). wordIn b p 0)) en
 
 -- the three answers
 pub open-1 : (b : List ℕ) → (length b ≡ 5120 → ⊥) → opened 1 0 blankNet ≡ openOf b

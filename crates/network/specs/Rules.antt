@@ -2,10 +2,8 @@
 --   "A fault belongs to the record p under test: if p lists q but q doesn't list p, p is unsound on that ground and q isn't."
 -- So each rule is a test of one record p of a network; h is the number that the record's first four bytes make.
 use mathlib.Core.Bool.{Bool, true, false, cond, not, _&&_, _||_}
-use mathlib.Core.List.{List}
 use Prim.Native.Nat.{ℕ}
 use lib.Dec.{eqb, ltb}
-use lib.ListN.{getD}
 use Rattle.sets.specs.Set.{meet, minus, setOf, digit}
 use Rattle.sets.specs.Any.{all}
 use Rattle.sets.specs.Least.{lowestOf}
@@ -59,21 +57,21 @@ presentFault n p = unless (ownRight n p) 3 (unless (nearRight n p) 4 (unless (ba
 unfoldable pub faultOf : ℕ → Network → Peer → ℕ
 faultOf h n p = unless (headRight h) 1 (cond (eqb h 0) (absentFault n p) (presentFault n p))
 
--- record p has a fault, the first words of all records being `heads`; and the "lowest unsound record", 32 where there is none
-unfoldable pub faulty : List ℕ → Network → ℕ → Bool
-faulty heads n p = not (eqb (faultOf (getD heads p 0) n (peer p)) 0)
-
-unfoldable pub lowestBy : List ℕ → Network → ℕ
-lowestBy heads n = lowestOf 32 (faulty heads n)
-
 -- "A peer is present when byte 0 is 1": the first word of p's record as it is written
 abbrev pub headOf : Network → Peer → ℕ
 headOf n p = digit (present n p)
 
--- the fault of p's record in the working state, whose first word can't be wrong
+-- the fault of p's record in the working state, whose first words can't be wrong
 abbrev pub faultIn : Network → Peer → ℕ
 faultIn n p = faultOf (headOf n p) n p
 
--- "lowest unsound record", 32 where there is none
-unfoldable pub lowestFault : Network → ℕ
-lowestFault n = lowestOf 32 (λ (p : ℕ). not (eqb (faultIn n (peer p)) 0))
+-- Record p has a fault, `heads i` being the first word of record i; and the "lowest unsound record", 32 where there is none:
+-- of any first words, and of the working state.
+unfoldable pub faulty : (ℕ → ℕ) → Network → ℕ → Bool
+faulty heads n p = not (eqb (faultOf (heads p) n (peer p)) 0)
+
+unfoldable pub lowestBy : (ℕ → ℕ) → Network → ℕ
+lowestBy heads n = lowestOf 32 (faulty heads n)
+
+abbrev pub lowestFault : Network → ℕ
+lowestFault n = lowestBy (λ (p : ℕ). headOf n (peer p)) n

@@ -3,13 +3,12 @@
 --   4-7 pubs; 8-11 subs; 12-15 neighbours; 16-23 pending; 24-31 seen; 32-159 known subscribers for topics 0 to 31, 4 bytes each".
 -- So word 0 of a record is its head, 1 pubs, 2 subs, 3 neighbours, 4-5 pending, 6-7 seen, 8-39 known subscribers.
 use mathlib.Core.Path.{_≡_}
-use mathlib.Core.Bool.{cond, not}
+use mathlib.Core.Bool.{cond}
 use mathlib.Core.List.{List}
 use Prim.Native.Nat.{ℕ, zero, suc, _+_, _*_, _/_, _%_, _^_}
 use lib.Dec.{eqb, ltb}
 use lib.ListN.{length, replicate}
 use Rattle.sets.specs.Set.{setOf}
-use Rattle.sets.specs.Least.{lowestOf}
 use Rattle.lists.specs.Tab.{tab}
 use Rattle.endian.specs.Le.{le}
 use Rattle.network.specs.declared.Peer.{Peer}
@@ -18,7 +17,7 @@ use Rattle.network.specs.declared.Opened.{Opened}
 use Rattle.network.specs.declared.Looked.{Looked}
 use Rattle.network.specs.declared.Wrote.{Wrote}
 use Rattle.network.specs.Network.{peer, topic, mk, pubsOf, subsOf, neighboursOf, pendingOf, seenOf, knownOf}
-use Rattle.network.specs.Rules.{faultOf, headOf, lowestFault}
+use Rattle.network.specs.Rules.{faultOf, headOf, lowestBy, lowestFault}
 
 -- ---- reading
 
@@ -51,12 +50,12 @@ netOf b =
     (tab 32 (λ (p : ℕ). longIn b p 6))
     (tab 1024 (knownIn b))
 
--- the fault of record p, and the "lowest unsound record", 32 where there is none
+-- the fault of record p, and the "lowest unsound record"
 abbrev pub faultAt : List ℕ → Peer → ℕ
 faultAt b p = faultOf (wordIn b (p .0) 0) (netOf b) p
 
-unfoldable pub unsoundAt : List ℕ → ℕ
-unsoundAt b = lowestOf 32 (λ (p : ℕ). not (eqb (faultAt b (peer p)) 0))
+abbrev pub unsoundAt : List ℕ → ℕ
+unsoundAt b = lowestBy (λ (p : ℕ). wordIn b p 0) (netOf b)
 
 -- "A blank network is 5,120 zero bytes."
 unfoldable pub blankNet : Network

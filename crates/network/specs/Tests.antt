@@ -2,26 +2,25 @@
 use mathlib.Core.Path.{_≡_, refl, sym, ap, _∙_}
 use mathlib.Core.Bool.{Bool, true, false, not, _&&_, _||_, and-comm, and-true, and-false}
 use mathlib.Core.List.{List}
-use Prim.Native.Nat.{ℕ, _+_, _*_, _<_}
+use Prim.Native.Nat.{ℕ, _+_, _^_, _<_}
 use lib.Dec.{eqb}
 use lib.ListN.{getD}
 use borrow.Author.Tests.{eq-eqb, eqb-true}
-use Rattle.sets.specs.Members.{has-meet}
-use Rattle.sets.specs.Bounds.{meet-lt}
+use Rattle.sets.specs.Members.{has-meet, has-minus}
+use Rattle.sets.specs.Bounds.{meet-lt, minus-lt}
 use Rattle.sets.specs.Build.{setOf-lt, has-setOf, is-setOf}
-use Rattle.sets.specs.Set.{has, meet, withIf, setOf}
-use Rattle.sets.specs.Bools.{clash, and-both}
+use Rattle.sets.specs.Set.{has, meet, minus, withIf, setOf, lowest}
+use Rattle.sets.specs.Bools.{clash, and-or-not}
+use Rattle.sets.specs.Least.{lowestOf, lowestOf-same, lowestOf-is-all}
+use Rattle.sets.specs.Lowest.{lowest-lowestOf, lowest-is-none}
 use Rattle.sets.specs.Any.{all, all-yes, all-why, all-more, all-same}
 use Rattle.lists.specs.Tab.{tab, getD-tab}
 use Rattle.lists.specs.Edit.{edit}
 use Rattle.network.specs.declared.Peer.{Peer}
+use Rattle.network.specs.declared.Topic.{Topic}
 use Rattle.network.specs.declared.Network.{Network}
-use Rattle.network.specs.Network.{peer, topic, neighboursOf, knownOf, linked, subscribed}
-use Rattle.network.specs.Rules.{backRight, knownRight}
-
--- a loop that asks the numbers one by one: the next passes too
-pub all-next : (n : ℕ) (f : ℕ → Bool) → all n f ≡ true → f n ≡ true → all (n + 1) f ≡ true
-all-next n f h e = all-more n f ∙ and-both h e
+use Rattle.network.specs.Network.{peer, topic, spot, neighboursOf, knownOf, linked, subscribed}
+use Rattle.network.specs.Rules.{nearRight, backRight, knownRight}
 
 -- a loop that asks all of them: r says whether all so far passed
 pub all-keep : (n : ℕ) (f : ℕ → Bool) {r : Bool} → r ≡ all n f → f n ≡ true → r ≡ all (n + 1) f
@@ -39,32 +38,54 @@ unfoldable pub joinedTo : ℕ → ℕ → List ℕ → List ℕ
 joinedTo topics q l = edit (λ (t w : ℕ). withIf (has topics t) q w) l
 
 -- no known subscribers in the row of p
-unfoldable pub rowEmpty : List ℕ → ℕ → Bool
-rowEmpty known p = all 32 (λ (t : ℕ). eqb (getD known (p * 32 + t) 0) 0)
+unfoldable pub rowEmpty : List ℕ → Peer → Bool
+rowEmpty known p = all 32 (λ (t : ℕ). eqb (getD known (spot p (topic t)) 0) 0)
 
--- every peer of the set lists p
-unfoldable pub listBack : List ℕ → ℕ → ℕ → Bool
-listBack neighbours listed p = all 32 (λ (q : ℕ). not (has listed q) || has (getD neighbours q 0) p)
+-- the lowest of the peers listed that is absent
+unfoldable pub nearAbsent : ℕ → ℕ → ℕ
+nearAbsent listed present = lowestOf 32 (λ (q : ℕ). has listed q && not (has present q))
 
--- the row of p has, for each topic, the subscribers among the peers listed
-unfoldable pub rowKnown : List ℕ → List ℕ → ℕ → ℕ → Bool
-rowKnown known subscribers listed p = all 32 (λ (t : ℕ). eqb (getD known (p * 32 + t) 0) (meet (getD subscribers t 0) listed))
+-- the lowest of the peers listed that doesn't list p
+unfoldable pub listBack : List ℕ → ℕ → Peer → ℕ
+listBack neighbours listed p = lowestOf 32 (λ (q : ℕ). has listed q && not (has (getD neighbours q 0) (p .0)))
 
--- ---- each is its rule
+-- for topic t the row of p has the subscribers among the peers listed; and the lowest topic for which it has others
+abbrev pub knownAt : List ℕ → List ℕ → ℕ → Peer → ℕ → Bool
+knownAt known subscribers listed p t = eqb (getD known (spot p (topic t)) 0) (meet (getD subscribers t 0) listed)
+
+unfoldable pub rowKnown : List ℕ → List ℕ → ℕ → Peer → ℕ
+rowKnown known subscribers listed p = lowestOf 32 (λ (t : ℕ). not (knownAt known subscribers listed p t))
+
+-- what is compared for topic t
+pub known-at : (known subscribers : List ℕ) (listed : ℕ) (p : Peer) (t : ℕ) {i w : ℕ} → i ≡ spot p (topic t) → w ≡ meet (getD subscribers t 0) listed → eqb (getD known i 0) w ≡ knownAt known subscribers listed p t
+known-at known subscribers listed p t ei ew = rw (ei, ew)
+
+-- ---- each is its rule, where the lowest is 32
 
 -- "all its bytes are zero", of the known subscribers
-pub row-empty-why : (known : List ℕ) (p : ℕ) → rowEmpty known p ≡ true → (t : ℕ) → t < 32 → getD known (p * 32 + t) 0 ≡ 0
+pub row-empty-why : (known : List ℕ) (p : Peer) → rowEmpty known p ≡ true → (t : Topic) → t .0 < 32 → getD known (spot p t) 0 ≡ 0
 unfolding rowEmpty
-row-empty-why known p h t b = eqb-true _ _ (all-why 32 (λ (t : ℕ). eqb (getD known (p * 32 + t) 0) 0) h t b)
+row-empty-why known p h t b = eqb-true _ _ (all-why 32 (λ (t : ℕ). eqb (getD known (spot p (topic t)) 0) 0) h (t .0) b)
 
-pub row-empty-not : (known : List ℕ) (p : ℕ) → rowEmpty known p ≡ false → ((t : ℕ) → t < 32 → getD known (p * 32 + t) 0 ≡ 0) → ⊥
+pub row-empty-not : (known : List ℕ) (p : Peer) → rowEmpty known p ≡ false → ((t : Topic) → t .0 < 32 → getD known (spot p t) 0 ≡ 0) → ⊥
 unfolding rowEmpty
-row-empty-not known p h e = clash (all-yes 32 _ λ t b. eq-eqb _ _ (e t b)) h
+row-empty-not known p h e = clash (all-yes 32 _ λ t b. eq-eqb _ _ (e (topic t) b)) h
+
+-- "each neighbour q is present": by the word of those that are not
+pub near-lowest : (listed present : ℕ) → listed < 2 ^ 32 → lowest 32 (minus listed present) ≡ nearAbsent listed present
+unfolding nearAbsent
+near-lowest listed present h = lowest-lowestOf 32 (minus listed present) (minus-lt 32 listed present h) ∙ lowestOf-same 32 _ _ λ q l. has-minus listed present q
+
+pub near-is : (n : Network) (p : Peer) → neighboursOf n p < 2 ^ 32 → eqb (nearAbsent (neighboursOf n p) (n .present)) 32 ≡ nearRight n p
+unfolding nearRight
+near-is n p h = ap (λ (x : ℕ). eqb x 32) (sym (near-lowest (neighboursOf n p) (n .present) h)) ∙ lowest-is-none 32 _ (minus-lt 32 (neighboursOf n p) (n .present) h)
 
 -- "and lists p"
-pub back-is : (n : Network) (p : Peer) → listBack (n .neighbours) (neighboursOf n p) (p .0) ≡ backRight n p
+pub back-is : (n : Network) (p : Peer) → eqb (listBack (n .neighbours) (neighboursOf n p) p) 32 ≡ backRight n p
 unfolding listBack backRight
-back-is n p = refl
+back-is n p =
+    ap (λ (x : ℕ). eqb x 32) (lowestOf-same 32 _ (λ (q : ℕ). not (not (linked n p (peer q)) || linked n (peer q) p)) λ q l. and-or-not (linked n p (peer q)) (linked n (peer q) p))
+    ∙ lowestOf-is-all 32 (λ (q : ℕ). not (linked n p (peer q)) || linked n (peer q) p)
 
 -- "the neighbours subscribed to t" are those that both sets have
 both-is : (n : Network) (p : Peer) (t : ℕ) → t < 32
@@ -78,6 +99,7 @@ both-is n p t b =
     to : ℕ → Bool
     to q = has (getD (n .subs) q 0) t
 
-pub known-is : (n : Network) (p : Peer) {subscribers : List ℕ} → subscribers ≡ subscribersOf (n .subs) → rowKnown (n .known) subscribers (neighboursOf n p) (p .0) ≡ knownRight n p
+pub known-is : (n : Network) (p : Peer) {subscribers : List ℕ} → subscribers ≡ subscribersOf (n .subs) → eqb (rowKnown (n .known) subscribers (neighboursOf n p) p) 32 ≡ knownRight n p
 unfolding rowKnown knownRight
-known-is n p e = rw e (all-same 32 _ _ λ t b. ap (eqb (knownOf n p (topic t))) (both-is n p t b))
+known-is n p {subscribers} e =
+    lowestOf-is-all 32 (knownAt (n .known) subscribers (neighboursOf n p) p) ∙ rw e (all-same 32 _ _ λ t b. ap (eqb (knownOf n p (topic t))) (both-is n p t b))

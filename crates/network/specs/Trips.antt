@@ -1,31 +1,30 @@
 -- "Reading then writing a sound state gives the same bytes, and the reverse." Assumes nothing.
 use mathlib.Core.Path.{_≡_, refl, sym, ap, ap₂, _∙_}
-use mathlib.Core.Bool.{Bool, true, false, not}
+use mathlib.Core.Bool.{Bool, true, false}
 use mathlib.Core.List.{List}
 use Prim.Native.Nat.{ℕ, zero, suc, _+_, _*_, _/_, _%_, _^_, _<_}
 use native.Mathlib.Nat.{zero-div}
 use native.Mathlib.Omega.{arith}
 use lib.Dec.{eqb}
 use lib.ListN.{length, getD, replicate, length-replicate}
-use borrow.Author.Tests.{eq-eqb}
 use Rattle.sets.specs.Set.{has, digit}
 use Rattle.sets.specs.Members.{has-none}
 use Rattle.sets.specs.Build.{setOf-same, setOf-has}
-use Rattle.sets.specs.Least.{lowestOf-none}
 use Rattle.lists.specs.Tab.{length-tab, getD-tab, is-tab, tab-below}
 use Rattle.endian.specs.Le.{Bytes, le, le-4, le-8}
 use Rattle.network.specs.declared.Network.{Network}
 use Rattle.network.specs.Network.{peer, Shaped}
 use Rattle.network.specs.Sound.{Sound}
 use Rattle.network.specs.Rules.{faultOf, faultIn, lowestFault}
-use Rattle.network.specs.State.{word, wordIn, long, longIn, knownIn, netOf, faultAt, unsoundAt, blankNet, opened, openOf, wordAt, wordOf, byteOf, bytesOf, wrote, writeOf, writtenOf}
+use Rattle.network.specs.State.{word, wordIn, long, longIn, knownIn, netOf, faultAt, blankNet, opened, openOf, wordAt, wordOf, byteOf, bytesOf, wrote, writeOf, writtenOf}
 use Rattle.network.specs.Storing.{word-of, word-known, byte-of}
 use Rattle.network.specs.Zeros.{getD-zeros}
 use Rattle.network.specs.Opening.{open-0}
 use Rattle.network.specs.Writing.{write-0}
 use Rattle.network.specs.SameNetwork.{mk-same}
 use Rattle.network.specs.SoundIff.{sound-faults}
-use Rattle.network.specs.OpenedSound.{blank-sound, word-lt, head-is, fault-head-right, none-unsound, accepted}
+use Rattle.network.specs.OpenedSound.{blank-sound, word-lt, head-is, fault-head-right, accepted}
+use Rattle.network.specs.Faults.{none-faulty, faultless}
 
 -- ---- reading, then writing
 
@@ -83,7 +82,7 @@ pub read-write : (b : List ℕ) → Bytes b → openOf b .number ≡ 0 → bytes
 unfolding bytesOf
 read-write b h e =
     let a = accepted b e in
-    let heads : (p : ℕ) → p < 32 → wordIn b p 0 < 2 = λ p l. fault-head-right _ _ _ (none-unsound b (a .sound) p l) in
+    let heads : (p : ℕ) → p < 32 → wordIn b p 0 < 2 = λ p l. fault-head-right _ _ _ (none-faulty _ _ (a .sound) p l) in
     rw (a .is) (sym (is-tab 5120 (byteOf (netOf b)) b (a .long) λ i l. sym (bytes-back b h heads i l)))
 
 -- ---- writing, then reading
@@ -184,14 +183,12 @@ bytes-fit n = tab-below 5120 (byteOf n) 256 (omega arith) λ i l. omega arith
 
 -- "and the reverse"
 pub write-read : {n : Network} → Sound n → openOf (bytesOf n) ≡ opened 0 0 n
-unfolding unsoundAt
 write-read {n} s =
-    sym (open-0 (bytesOf n) 32 (bytes-long n) (sym (lowestOf-none 32 _ λ p l. ap not (eq-eqb _ _ (written-fault n (s .shaped) p l ∙ sound-faults s (peer p) l)))) (omega arith) (sym (net-back n (s .shaped))))
+    sym (open-0 (bytesOf n) 32 (bytes-long n) (faultless _ _ λ p l. written-fault n (s .shaped) p l ∙ sound-faults s (peer p) l) (omega arith) (sym (net-back n (s .shaped))))
 
 -- a sound network is never refused
 pub sound-lowest : {n : Network} → Sound n → 32 ≡ lowestFault n
-unfolding lowestFault
-sound-lowest s = sym (lowestOf-none 32 _ λ p l. ap not (eq-eqb _ _ (sound-faults s (peer p) l)))
+sound-lowest s = faultless _ _ λ p l. sound-faults s (peer p) l
 
 pub write-sound : {n : Network} → Sound n → (b : List ℕ) → length b ≡ 5120 → (wrote 0 0 ≡ writeOf n b) × (bytesOf n ≡ writtenOf n b)
 write-sound {n} s b h = write-0 n b h (sound-lowest s) (omega arith) refl

@@ -279,16 +279,15 @@ pub fn read_table(table: &[u8]) -> Listed
     if table.len() != 256 {
         return unlisted(2, 0);
     }
-    let r = rows::bad(table);
+    let words = rows::words(table);
+    let r = rows::bad(&words);
     if r < 64 {
         return unlisted(4, r);
     }
-    let topics = rows::column(table, 0);
-    let origins = rows::column(table, 1);
     Listed {
         number: 0,
         place: 0,
-        table: Table { topics, origins },
+        table: rows::columns(&words),
     }
 }
 

@@ -1,39 +1,61 @@
-// The rows of a message table (specs/Rows.antt).
+// The rows of a message table (specs/Rows.antt), each read as one number of 4 bytes (specs/RowWords.antt).
+use crate::Table;
 ghost use mathlib.Core.Path.{_≡_};
-ghost use Prim.Native.Nat.{ℕ, _<_};
-ghost use lib.ListN.{length};
+ghost use Prim.Native.Nat.{ℕ};
+ghost use lib.ListN.{length, getD};
+ghost use Rattle.sets.specs.Any.{all};
 ghost use Rattle.lists.specs.Tab.{tab};
-ghost use Rattle.network.specs.Rows.{byteIn, rowRight, badRow};
+ghost use Rattle.network.specs.RowWords.{rowWord, wordRight, badWord, wordsTable};
 
-// Row r has a topic, an origin and two zero bytes.
-fn right(table: &[u8], r: usize) -> bool
-    requires { ⌜ (length (now table) ≡ 256) × (r < 64) ⌝ }
-    ensures { λ x. ⌜ x ≡ rowRight (now (table .entry)) r ⌝ }
+// The number of each row.
+pub(crate) fn words(table: &[u8]) -> [u32; 64]
+    requires { ⌜ length (now table) ≡ 256 ⌝ }
+    ensures { λ x. ⌜ x ≡ tab 64 (rowWord (now (table .entry))) ⌝ }
 {
-    let at = 4 * r;
-    if 32 <= table[at] {
+    let mut x = [0u32; 64];
+    let mut r: usize = 0;
+    while r < 64 {
+        x[r] = endian::le4(table, 4 * r);
+        r += 1;
+    }
+    x
+}
+
+// A row with this number has a topic, an origin and two zero bytes.
+fn right(w: u32) -> bool
+    ensures { λ x. ⌜ x ≡ wordRight w ⌝ }
+{
+    if 8192 <= w {
         return false;
     }
-    if 32 <= table[at + 1] {
-        return false;
+    w % 256 < 32
+}
+
+// All rows are right. Every row is asked, so that the compiler can ask many at once.
+fn all_right(words: &[u32; 64]) -> bool
+    ensures { λ x. ⌜ x ≡ all 64 (λ (r : ℕ). wordRight (getD (now (words .entry)) r 0)) ⌝ }
+{
+    let mut ok = true;
+    let mut r: usize = 0;
+    while r < 64 {
+        if !right(words[r]) {
+            ok = false;
+        }
+        r += 1;
     }
-    if table[at + 2] != 0 {
-        return false;
-    }
-    if table[at + 3] != 0 {
-        return false;
-    }
-    true
+    ok
 }
 
 // The lowest row that is not right; 64 where all are.
-pub(crate) fn bad(table: &[u8]) -> usize
-    requires { ⌜ length (now table) ≡ 256 ⌝ }
-    ensures { λ r. ⌜ r ≡ badRow (now (table .entry)) ⌝ }
+pub(crate) fn bad(words: &[u32; 64]) -> usize
+    ensures { λ x. ⌜ x ≡ badWord (now (words .entry)) ⌝ }
 {
+    if all_right(words) {
+        return 64;
+    }
     let mut r: usize = 0;
     while r < 64 {
-        if !right(table, r) {
+        if !right(words[r]) {
             return r;
         }
         r += 1;
@@ -41,16 +63,17 @@ pub(crate) fn bad(table: &[u8]) -> usize
     64
 }
 
-// Byte j of each row.
-pub(crate) fn column(table: &[u8], j: usize) -> [u8; 64]
-    requires { ⌜ (length (now table) ≡ 256) × (j < 4) ⌝ }
-    ensures { λ x. ⌜ x ≡ tab 64 (λ (r : ℕ). byteIn (now (table .entry)) r j) ⌝ }
+// The topics and the origins.
+pub(crate) fn columns(words: &[u32; 64]) -> Table
+    ensures { λ x. ⌜ x ≡ wordsTable (now (words .entry)) ⌝ }
 {
-    let mut x = [0u8; 64];
+    let mut topics = [0u8; 64];
+    let mut origins = [0u8; 64];
     let mut r: usize = 0;
     while r < 64 {
-        x[r] = table[4 * r + j];
+        topics[r] = (words[r] % 256) as u8;
+        origins[r] = (words[r] / 256 % 256) as u8;
         r += 1;
     }
-    x
+    Table { topics, origins }
 }

@@ -1,15 +1,18 @@
 // The rules of soundness as code: which rule a record breaks first, and which record is the lowest that breaks one
 // (specs/Rules.antt; specs/Tests.antt has what is tested in place of a rule).
 use crate::Peer;
+use crate::Topic;
+use crate::spot;
 ghost use mathlib.Core.Path.{_≡_};
-ghost use Prim.Native.Nat.{ℕ, _%_, _<_};
-ghost use mathlib.Core.List.{[]};
+ghost use Prim.Native.Nat.{ℕ, _%_, _^_, _<_};
 ghost use lib.Dec.{eqb};
 ghost use lib.ListN.{getD};
 ghost use Rattle.sets.specs.Set.{setOf};
-ghost use Rattle.network.specs.Network.{mk};
+ghost use Rattle.sets.specs.Any.{all};
+ghost use Rattle.network.specs.declared.Network.{Network};
+ghost use Rattle.network.specs.Network.{withPresent, withPubs, withSubs, withNeighbours, withPending, withSeen, withKnown, withAll};
 ghost use Rattle.network.specs.Rules.{absentFault, presentFault, faultOf, lowestBy};
-ghost use Rattle.network.specs.Tests.{subscribersOf, joinedTo, rowEmpty, listBack, rowKnown};
+ghost use Rattle.network.specs.Tests.{subscribersOf, joinedTo, rowEmpty, nearAbsent, listBack, knownAt, rowKnown};
 
 // "A peer is present when byte 0 is 1": the peers whose first word has 1 as its lowest byte.
 pub(crate) fn ones(heads: &[u32; 32]) -> u32
@@ -27,14 +30,14 @@ pub(crate) fn ones(heads: &[u32; 32]) -> u32
 }
 
 // Peer q joins the set of each of the topics.
-fn join(to: &mut [u32; 32], topics: u32, q: u32)
-    requires { ⌜ q < 32 ⌝ }
-    ensures { λ r. ⌜ now (to .exit) ≡ joinedTo topics q (now (to .entry)) ⌝ }
+fn join(to: &mut [u32; 32], topics: u32, q: Peer)
+    requires { ⌜ q .0 < 32 ⌝ }
+    ensures { λ r. ⌜ now (to .exit) ≡ joinedTo topics (q .0) (now (to .entry)) ⌝ }
 {
     let mut left = topics;
     while 0 < left {
         let t = sets::lowest32(left) as usize;
-        to[t] = sets::with32(to[t], q);
+        to[t] = sets::with32(to[t], q.0 as u32);
         left = sets::rest32(left);
     }
 }
@@ -44,23 +47,24 @@ pub(crate) fn subscribers(subs: &[u32; 32]) -> [u32; 32]
     ensures { λ r. ⌜ r ≡ subscribersOf (now (subs .entry)) ⌝ }
 {
     let mut r = [0u32; 32];
-    let mut q: u32 = 0;
+    let mut q: u8 = 0;
     while q < 32 {
-        join(&mut r, subs[q as usize], q);
+        join(&mut r, subs[q as usize], Peer(q));
         q += 1;
     }
     r
 }
 
 // The row of p has no known subscribers.
-fn row_empty(known: &[u32; 1024], p: usize) -> bool
-    requires { ⌜ p < 32 ⌝ }
+fn row_empty(known: &[u32; 1024], p: Peer) -> bool
+    requires { ⌜ p .0 < 32 ⌝ }
     ensures { λ r. ⌜ r ≡ rowEmpty (now (known .entry)) p ⌝ }
 {
+    let base = p.0 as usize * 32;
     let mut same = true;
     let mut t: usize = 0;
     while t < 32 {
-        if known[p * 32 + t] != 0 {
+        if known[base + t] != 0 {
             same = false;
         }
         t += 1;
@@ -68,31 +72,43 @@ fn row_empty(known: &[u32; 1024], p: usize) -> bool
     same
 }
 
-// Every peer of the set lists p.
-fn list_back(neighbours: &[u32; 32], listed: u32, p: u32) -> bool
-    requires { ⌜ p < 32 ⌝ }
+// The lowest of the peers listed that is absent; 32 where all are present. It also hands on that the word fits, by which 32 means none.
+fn near_absent(listed: u32, present: u32) -> u32
+    ensures { λ r. ⌜ (r ≡ nearAbsent listed present) × (listed < 2 ^ 32) ⌝ }
+{
+    let absent = sets::minus32(listed, present);
+    if absent == 0 {
+        return 32;
+    }
+    sets::lowest32(absent)
+}
+
+// The lowest of the peers listed that doesn't list p; 32 where all do.
+fn list_back(neighbours: &[u32; 32], listed: u32, p: Peer) -> u32
+    requires { ⌜ p .0 < 32 ⌝ }
     ensures { λ r. ⌜ r ≡ listBack (now (neighbours .entry)) listed p ⌝ }
 {
     let mut left = listed;
     while 0 < left {
         let q = sets::lowest32(left);
-        if !sets::has32(neighbours[q as usize], p) {
-            return false;
+        if !sets::has32(neighbours[q as usize], p.0 as u32) {
+            return q;
         }
         left = sets::rest32(left);
     }
-    true
+    32
 }
 
-// The row of p has, for each topic, the subscribers among the peers listed.
-fn row_known(known: &[u32; 1024], subscribers: &[u32; 32], listed: u32, p: usize) -> bool
-    requires { ⌜ p < 32 ⌝ }
-    ensures { λ r. ⌜ r ≡ rowKnown (now (known .entry)) (now (subscribers .entry)) listed p ⌝ }
+// The row of p has, for each topic, the subscribers among the peers listed. Every topic is asked, so that the compiler can ask many at once.
+fn row_same(known: &[u32; 1024], subscribers: &[u32; 32], listed: u32, p: Peer) -> bool
+    requires { ⌜ p .0 < 32 ⌝ }
+    ensures { λ r. ⌜ r ≡ all 32 (knownAt (now (known .entry)) (now (subscribers .entry)) listed p) ⌝ }
 {
+    let base = p.0 as usize * 32;
     let mut same = true;
     let mut t: usize = 0;
     while t < 32 {
-        if known[p * 32 + t] != sets::meet32(subscribers[t], listed) {
+        if known[base + t] != sets::meet32(subscribers[t], listed) {
             same = false;
         }
         t += 1;
@@ -100,7 +116,25 @@ fn row_known(known: &[u32; 1024], subscribers: &[u32; 32], listed: u32, p: usize
     same
 }
 
-// The fault of an absent record: 2 where it is not empty. Who else is present plays no part in it.
+// The lowest topic for which the row of p has other subscribers than those among the peers listed; 32 where there is none.
+fn row_known(known: &[u32; 1024], subscribers: &[u32; 32], listed: u32, p: Peer) -> u32
+    requires { ⌜ p .0 < 32 ⌝ }
+    ensures { λ r. ⌜ r ≡ rowKnown (now (known .entry)) (now (subscribers .entry)) listed p ⌝ }
+{
+    if row_same(known, subscribers, listed, p) {
+        return 32;
+    }
+    let mut t: u8 = 0;
+    while t < 32 {
+        if known[spot(p, Topic(t))] != sets::meet32(subscribers[t as usize], listed) {
+            return t as u32;
+        }
+        t += 1;
+    }
+    32
+}
+
+// The fault of an absent record: 2 where it is not empty. This and what follows speak of every network that has the lent arrays.
 fn absent_fault(
     p: Peer,
     pubs: &[u32; 32],
@@ -111,7 +145,7 @@ fn absent_fault(
     known: &[u32; 1024],
 ) -> u8
     requires { ⌜ p .0 < 32 ⌝ }
-    ensures { λ r. ⌜ r ≡ absentFault (mk 0 (now (pubs .entry)) (now (subs .entry)) (now (neighbours .entry)) (now (pending .entry)) (now (seen .entry)) (now (known .entry))) p ⌝ }
+    ensures { λ r. ⌜ ((n : Network) → r ≡ absentFault (withPubs (withSubs (withNeighbours (withPending (withSeen (withKnown n (now (known .entry))) (now (seen .entry))) (now (pending .entry))) (now (neighbours .entry))) (now (subs .entry))) (now (pubs .entry))) p) ⌝ }
 {
     let i = p.0 as usize;
     if pubs[i] != 0 {
@@ -129,7 +163,7 @@ fn absent_fault(
     if seen[i] != 0 {
         return 2;
     }
-    if row_empty(known, i) {
+    if row_empty(known, p) {
         return 0;
     }
     2
@@ -147,20 +181,20 @@ fn present_fault(
     subscribers: &[u32; 32],
 ) -> u8
     requires { ⌜ (p .0 < 32) × (now subscribers ≡ subscribersOf (now subs)) ⌝ }
-    ensures { λ r. ⌜ r ≡ presentFault (mk present [] (now (subs .entry)) (now (neighbours .entry)) (now (pending .entry)) (now (seen .entry)) (now (known .entry))) p ⌝ }
+    ensures { λ r. ⌜ ((n : Network) → r ≡ presentFault (withPresent (withSubs (withNeighbours (withPending (withSeen (withKnown n (now (known .entry))) (now (seen .entry))) (now (pending .entry))) (now (neighbours .entry))) (now (subs .entry))) present) p) ⌝ }
 {
     let i = p.0 as usize;
     let listed = neighbours[i];
     if sets::has32(listed, p.0 as u32) {
         return 3;
     }
-    if sets::minus32(listed, present) != 0 {
+    if near_absent(listed, present) != 32 {
         return 4;
     }
-    if !list_back(neighbours, listed, p.0 as u32) {
+    if list_back(neighbours, listed, p) != 32 {
         return 5;
     }
-    if !row_known(known, subscribers, listed, i) {
+    if row_known(known, subscribers, listed, p) != 32 {
         return 6;
     }
     if sets::meet64(pending[i], seen[i]) != 0 {
@@ -183,7 +217,7 @@ fn fault(
     subscribers: &[u32; 32],
 ) -> u8
     requires { ⌜ (p .0 < 32) × (now subscribers ≡ subscribersOf (now subs)) ⌝ }
-    ensures { λ r. ⌜ r ≡ faultOf head (mk present (now (pubs .entry)) (now (subs .entry)) (now (neighbours .entry)) (now (pending .entry)) (now (seen .entry)) (now (known .entry))) p ⌝ }
+    ensures { λ r. ⌜ ((n : Network) → r ≡ faultOf head (withAll n present (now (pubs .entry)) (now (subs .entry)) (now (neighbours .entry)) (now (pending .entry)) (now (seen .entry)) (now (known .entry))) p) ⌝ }
 {
     if 2 <= head {
         return 1;
@@ -214,7 +248,7 @@ pub(crate) fn lowest_fault<'a>(
     seen: &'a [u64; 32],
     known: &'a [u32; 1024],
 ) -> usize
-    ensures { λ r. ⌜ r ≡ lowestBy (now (heads .entry)) (mk present (now (pubs .entry)) (now (subs .entry)) (now (neighbours .entry)) (now (pending .entry)) (now (seen .entry)) (now (known .entry))) ⌝ }
+    ensures { λ r. ⌜ ((n : Network) → r ≡ lowestBy (λ (p : ℕ). getD (now (heads .entry)) p 0) (withAll n present (now (pubs .entry)) (now (subs .entry)) (now (neighbours .entry)) (now (pending .entry)) (now (seen .entry)) (now (known .entry)))) ⌝ }
 {
     let subscribers = subscribers(subs);
     let mut p: u8 = 0;

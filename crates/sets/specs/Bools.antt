@@ -98,6 +98,10 @@ split-whole = bool2 (λ (a b : Bool). (a && not b) || (a && b) ≡ a) refl refl 
 pub split-none : (a b : Bool) → (a && not b) && (a && b) ≡ false
 split-none = bool2 (λ (a b : Bool). (a && not b) && (a && b) ≡ false) refl refl refl refl
 
+-- It is not so that the first brings the second.
+pub and-or-not : (a b : Bool) → a && not b ≡ not (not a || b)
+and-or-not = bool2 (λ (a b : Bool). a && not b ≡ not (not a || b)) refl refl refl refl
+
 -- One of the two and not both.
 abbrev pub apart : Bool → Bool → Bool
 apart true b = not b

@@ -1,10 +1,13 @@
 -- The least number below n that passes a test. Assumes nothing.
 use mathlib.Core.Path.{_≡_, refl, sym, _∙_, ap}
 use mathlib.Core.Logic.{_⊎_, inl, inr}
-use mathlib.Core.Bool.{Bool, true, false, cond}
+use mathlib.Core.Bool.{Bool, true, false, cond, not}
 use Prim.Native.Nat.{ℕ, zero, suc, _+_, _≤_, _<_}
 use native.Mathlib.Omega.{arith}
-use Rattle.sets.specs.Bools.{clash, below-suc}
+use lib.Dec.{eqb}
+use borrow.Author.Tests.{eq-eqb, eqb-true}
+use Rattle.sets.specs.Bools.{clash, bool-ext, not-no, below-suc}
+use Rattle.sets.specs.Any.{all, all-yes, all-why}
 
 -- the least number below n of which f is true; n where there is none
 unfoldable pub lowestOf : ℕ → (ℕ → Bool) → ℕ
@@ -60,6 +63,17 @@ pub lowestOf-same : (n : ℕ) (f g : ℕ → Bool) → ((i : ℕ) → i < n → 
 unfolding lowestOf
 lowestOf-same zero f g h = refl
 lowestOf-same (suc n) f g h = rw (h 0 (omega arith)) (ap (λ (m : ℕ). cond (g 0) 0 (suc m)) (lowestOf-same n _ _ (λ i b. h (suc i) (omega arith))))
+
+-- ---- the first that fails a test: it is n exactly where all pass
+
+pub lowestOf-all : (n : ℕ) (f : ℕ → Bool) → all n f ≡ true → lowestOf n (λ (i : ℕ). not (f i)) ≡ n
+lowestOf-all n f h = lowestOf-none n _ λ i b. ap not (all-why n f h i b)
+
+pub lowestOf-is-all : (n : ℕ) (f : ℕ → Bool) → eqb (lowestOf n (λ (i : ℕ). not (f i))) n ≡ all n f
+lowestOf-is-all n f =
+    bool-ext
+    (λ h. let e = eqb-true (lowestOf n (λ (i : ℕ). not (f i))) n h in all-yes n f λ i b. not-no (f i) (lowestOf-least n (λ (j : ℕ). not (f j)) i (omega arith)))
+    (λ h. eq-eqb _ n (lowestOf-all n f h))
 
 -- ---- a loop that walks up from 0 and stops at the first that passes: it keeps q ≡ lowestOf q f
 

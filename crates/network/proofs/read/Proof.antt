@@ -1,6 +1,7 @@
 -- `network::read` meets its contract. Assumes nothing.
 use borrow.Author.Needs.{needs}
 use mathlib.Core.Path.{_≡_, _∙_}
+use Rattle.network.specs.Network.{bare}
 use Rattle.network.specs.State.{unsoundAt}
 use Rattle.network.specs.Opening.{unsound-is, open-1, open-5, open-0}
 use Rattle.network.proofs.read.Statement.{statement}
@@ -8,7 +9,7 @@ use Rattle.network.proofs.read.Tie as tie
 
 -- what is found is the lowest unsound record
 found : (c : tie.After-lowest-fault) → c .lowest-fault .result ≡ unsoundAt (c .before .before .before .before .before .before .before .before .before .before .before .before .before .args .state .now)
-found c = c .lowest-fault .ensures ∙ unsound-is _ (c .before .before .before .before .before .before .before .before .before .before .words .ensures) (c .before .before .before .before .before .before .before .before .before .network .ensures)
+found c = c .lowest-fault .ensures bare ∙ unsound-is _ (c .before .before .before .before .before .before .before .before .before .before .words .ensures) (c .before .before .before .before .before .before .before .before .before .network .ensures)
 
 refused-requires : tie.Need-refused-requires
 refused-requires c κs = search needs

@@ -1,15 +1,27 @@
 -- `network::read_table` meets its contract. Assumes nothing.
 use borrow.Author.Needs.{needs}
-use mathlib.Core.Path.{_∙_}
+use mathlib.Core.Path.{_≡_, _∙_}
+use Rattle.network.specs.Rows.{badRow}
 use Rattle.network.specs.Listing.{list-2, list-4, list-0}
+use Rattle.network.specs.RowWords.{bad-is, table-is}
+use borrow.Author.Needs.{needs}
 use Rattle.network.proofs.read_table.Statement.{statement}
 use Rattle.network.proofs.read_table.Tie as tie
+
+-- what is found is the lowest bad row
+found : (c : tie.After-bad) → c .bad .result ≡ badRow (c .before .before .before .before .before .args .table .now)
+found c =
+    let w = c .before .before in
+    c .bad .ensures ∙ bad-is _ (λ i. w .before .before .shared-slice-known .given i .fits) (w .words .ensures)
 
 unlisted-requires : tie.Need-unlisted-requires
 unlisted-requires c κs = search needs
 
 returns : tie.Need-returns
 returns c = c .unlisted .ensures ∙ list-2 _ (c .before .if1 .taken)
+
+words-requires : tie.Need-words-requires
+words-requires c κs = search needs
 
 bad-requires : tie.Need-bad-requires
 bad-requires c κs = search needs
@@ -18,16 +30,18 @@ unlisted-requires-2 : tie.Need-unlisted-requires-2
 unlisted-requires-2 c κs = search needs
 
 returns-2 : tie.Need-returns-2
-returns-2 c = c .unlisted2 .ensures ∙ list-4 _ _ (c .before .before .before .if1 .left) (c .before .before .bad .ensures) (c .before .if2 .taken)
+returns-2 c =
+    let b = c .before .before in
+    c .unlisted2 .ensures ∙ list-4 _ _ (b .before .before .before .if1 .left) (found b) (c .before .if2 .taken)
 
-column-requires : tie.Need-column-requires
-column-requires c κs = search needs
-
-column-requires-2 : tie.Need-column-requires-2
-column-requires-2 c κs = search needs
+columns-requires : tie.Need-columns-requires
+columns-requires c κs = search needs
 
 returns-3 : tie.Need-returns-3
-returns-3 c = list-0 _ _ (c .before .before .before .before .if1 .left) (c .before .before .before .bad .ensures) (c .before .before .if2 .left) (c .before .column .ensures) (c .column2 .ensures)
+returns-3 c =
+    let b = c .before .before .before in
+    let w = b .before .before in
+    list-0 _ _ (w .before .if1 .left) (found b) (c .before .before .if2 .left) (c .columns .ensures ∙ table-is _ (λ i. w .before .before .shared-slice-known .given i .fits) (w .words .ensures))
 
 pub read-table-spec : {M : Type 1} → statement M
 read-table-spec =
@@ -35,9 +49,9 @@ read-table-spec =
     (tie.spec
     unlisted-requires
     returns
+    words-requires
     bad-requires
     unlisted-requires-2
     returns-2
-    column-requires
-    column-requires-2
+    columns-requires
     returns-3)

@@ -1,14 +1,16 @@
 -- `network::write` meets its contract. Assumes nothing.
 use borrow.Author.Needs.{needs}
 use mathlib.Core.Path.{_≡_, _∙_}
+use Rattle.network.specs.Network.{bare}
 use Rattle.network.specs.Rules.{lowestFault}
-use Rattle.network.specs.Writing.{lowest-is, write-1, write-5, write-0}
+use Rattle.network.specs.Faults.{lowest-tab}
+use Rattle.network.specs.Writing.{write-1, write-5, write-0}
 use Rattle.network.proofs.write.Statement.{statement}
 use Rattle.network.proofs.write.Tie as tie
 
 -- what is found is the lowest unsound record
 found : (c : tie.After-lowest-fault) → c .lowest-fault .result ≡ lowestFault (c .before .before .before .before .before .before .before .before .before .before .before .before .args .t1)
-found c = c .lowest-fault .ensures ∙ lowest-is _ (c .before .before .before .before .before .before .before .before .before .heads .ensures)
+found c = c .lowest-fault .ensures bare ∙ lowest-tab _ _ (c .before .before .before .before .before .before .before .before .before .heads .ensures)
 
 returns : tie.Need-returns
 returns c = write-1 _ _ (c .if1 .taken)

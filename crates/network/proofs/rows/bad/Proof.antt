@@ -4,26 +4,40 @@ use mathlib.Core.Path.{_≡_, sym, ap, _∙_}
 use mathlib.Core.Bool.{not}
 use Prim.Native.Nat.{ℕ, _-_, _≤_}
 use native.Mathlib.Omega.{arith}
-use Rattle.sets.specs.Least.{lowestOf, lowestOf-start, lowestOf-on, lowestOf-found}
-use Rattle.network.specs.Rows.{rowRight, badRow}
+use lib.ListN.{getD}
+use Rattle.sets.specs.Least.{lowestOf, lowestOf-all, lowestOf-start, lowestOf-on, lowestOf-found}
+use Rattle.network.specs.RowWords.{wordRight, badWord}
 use Rattle.network.proofs.rows.bad.Statement.{statement}
 use Rattle.network.proofs.rows.bad.Tie as tie
 
 abbrev Inv-loop : tie.InvT-loop
-Inv-loop table r₀ r = (r ≤ 64) × (r ≡ lowestOf r (λ (i : ℕ). not (rowRight table i)))
+Inv-loop words r₀ r = (r ≤ 64) × (r ≡ lowestOf r (λ (i : ℕ). not (wordRight (getD words i 0))))
 
 abbrev μ-loop : tie.MeasureT-loop
-μ-loop table r₀ r = 64 - r
+μ-loop words r₀ r = 64 - r
+
+all-right-requires : tie.Need-all-right-requires Inv-loop μ-loop
+all-right-requires c κs = search needs
+
+returns : tie.Need-returns Inv-loop μ-loop
+unfolding badWord
+returns c = sym (lowestOf-all 64 _ (sym (c .before .all-right .ensures) ∙ c .if1 .taken))
 
 loop-holds : tie.Need-loop-holds Inv-loop μ-loop
 loop-holds c = (search needs, lowestOf-start _)
 
+mul-right : tie.Need-mul-right Inv-loop μ-loop
+mul-right c = search needs
+
+element-copy-out-right : tie.Need-element-copy-out-right Inv-loop μ-loop
+element-copy-out-right c = search needs
+
 right-requires : tie.Need-right-requires Inv-loop μ-loop
 right-requires c κs = search needs
 
-returns : tie.Need-returns Inv-loop μ-loop
-unfolding badRow
-returns c = lowestOf-found 64 _ _ (c .before .before .before .loop .inv .1) (search needs) (ap not (sym (c .before .right .ensures)) ∙ c .if1 .taken)
+returns-2 : tie.Need-returns-2 Inv-loop μ-loop
+unfolding badWord
+returns-2 c = lowestOf-found 64 _ _ (c .before .before .before .before .loop .inv .1) (search needs) (ap not (sym (c .before .right .ensures)) ∙ c .if2 .taken)
 
 add-r : tie.Need-add-r Inv-loop μ-loop
 add-r c = search needs
@@ -32,11 +46,11 @@ loop-less : tie.Need-loop-less Inv-loop μ-loop
 loop-less c = search needs
 
 loop-again : tie.Need-loop-again Inv-loop μ-loop
-loop-again c = (search needs, lowestOf-on _ _ (c .before .before .before .loop .inv .1) (ap not (sym (c .before .right .ensures)) ∙ c .if1 .left))
+loop-again c = (search needs, lowestOf-on _ _ (c .before .before .before .before .loop .inv .1) (ap not (sym (c .before .right .ensures)) ∙ c .if2 .left))
 
-returns-2 : tie.Need-returns-2 Inv-loop μ-loop
-unfolding badRow
-returns-2 c = let e : c .before .loop .r ≡ 64 = omega arith in rw e at (c .before .loop .inv .1)
+returns-3 : tie.Need-returns-3 Inv-loop μ-loop
+unfolding badWord
+returns-3 c = let e : c .before .loop .r ≡ 64 = omega arith in rw e at (c .before .loop .inv .1)
 
 pub bad-spec : {M : Type 1} → statement M
 bad-spec =
@@ -44,10 +58,14 @@ bad-spec =
     (tie.spec
     Inv-loop
     μ-loop
-    loop-holds
-    right-requires
+    all-right-requires
     returns
+    loop-holds
+    mul-right
+    element-copy-out-right
+    right-requires
+    returns-2
     add-r
     loop-less
     loop-again
-    returns-2)
+    returns-3)

@@ -2,24 +2,25 @@
 use borrow.Author.Needs.{needs}
 use mathlib.Core.Path.{sym, _∙_}
 use native.Mathlib.Omega.{arith}
-use Rattle.network.specs.Faults.{fault-head, fault-absent, fault-present, absent-same, present-same}
+use Rattle.network.specs.Network.{withPresent, withPubs}
+use Rattle.network.specs.Faults.{fault-head, fault-absent, fault-present}
 use Rattle.network.proofs.rules.fault.Statement.{statement}
 use Rattle.network.proofs.rules.fault.Tie as tie
 
 returns : tie.Need-returns
-returns c = fault-head _ _ _ (c .if1 .taken)
+returns c = λ n. fault-head _ _ _ (c .if1 .taken)
 
 absent-fault-requires : tie.Need-absent-fault-requires
 absent-fault-requires c κs = search needs
 
 returns-2 : tie.Need-returns-2
-returns-2 c = c .absent-fault .ensures ∙ absent-same _ _ _ _ _ _ _ _ _ ∙ sym (fault-absent _ _ _ (c .before .if2 .taken))
+returns-2 c = λ n. c .absent-fault .ensures (withPresent n _) ∙ sym (fault-absent _ _ _ (c .before .if2 .taken))
 
 present-fault-requires : tie.Need-present-fault-requires
 present-fault-requires c κs = search needs
 
 returns-3 : tie.Need-returns-3
-returns-3 c = c .present-fault .ensures ∙ present-same _ _ _ _ _ _ _ _ _ ∙ sym (fault-present _ _ _ (omega arith))
+returns-3 c = λ n. c .present-fault .ensures (withPubs n _) ∙ sym (fault-present _ _ _ (omega arith))
 
 pub fault-spec : {M : Type 1} → statement M
 fault-spec =

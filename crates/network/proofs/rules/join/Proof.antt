@@ -1,12 +1,12 @@
 -- `network::rules::join` meets its contract. Assumes nothing.
 use borrow.Author.Needs.{needs}
-use native.Mathlib.Omega.{arith}
 use Rattle.network.specs.Joining.{Joins, joins-none, joins-more, joins-all}
+use native.Mathlib.Omega.{arith}
 use Rattle.network.proofs.rules.join.Statement.{statement}
 use Rattle.network.proofs.rules.join.Tie as tie
 
 abbrev Inv-loop : tie.InvT-loop
-Inv-loop to₀ topics q left₀ to left = Joins to₀ topics q left to
+Inv-loop to₀ topics q left₀ to left = Joins to₀ topics (q .0) left to
 
 abbrev μ-loop : tie.MeasureT-loop
 μ-loop to₀ topics q left₀ to left = left
@@ -26,6 +26,9 @@ mul-with32 c = search needs
 element-copy-out-with32 : tie.Need-element-copy-out-with32 Inv-loop μ-loop
 element-copy-out-with32 c = search needs
 
+cast-with32 : tie.Need-cast-with32 Inv-loop μ-loop
+cast-with32 c = search needs
+
 with32-requires : tie.Need-with32-requires Inv-loop μ-loop
 with32-requires c κs = search needs
 
@@ -42,7 +45,10 @@ loop-less : tie.Need-loop-less Inv-loop μ-loop
 loop-less c = search needs
 
 loop-again : tie.Need-loop-again Inv-loop μ-loop
-loop-again c = joins-more (c .before .before .before .before .before .loop .inv) (search needs) (c .before .before .before .lowest32 .ensures .0) (c .rest32 .ensures .0) (c .before .with32 .ensures)
+loop-again c =
+    let q = c .before .before .before .before in
+    let l = q .before .before .loop in
+    joins-more (l .inv) (search needs) (q .lowest32 .ensures .0) (c .rest32 .ensures .0) (c .before .with32 .ensures)
 
 returns : tie.Need-returns Inv-loop μ-loop
 returns c = joins-all (c .before .loop .inv) (omega arith)
@@ -58,6 +64,7 @@ join-spec =
     cast-t
     mul-with32
     element-copy-out-with32
+    cast-with32
     with32-requires
     mul-to
     element-write-to

@@ -8,7 +8,7 @@ use Rattle.network.proofs.rules.list_back.Statement.{statement}
 use Rattle.network.proofs.rules.list_back.Tie as tie
 
 abbrev Inv-loop : tie.InvT-loop
-Inv-loop neighbours listed p left₀ left = Backs neighbours listed p left
+Inv-loop neighbours listed p left₀ left = Backs neighbours listed (p .0) left
 
 abbrev μ-loop : tie.MeasureT-loop
 μ-loop neighbours listed p left₀ left = left
@@ -28,13 +28,17 @@ mul-has32 c = search needs
 element-copy-out-has32 : tie.Need-element-copy-out-has32 Inv-loop μ-loop
 element-copy-out-has32 c = search needs
 
+cast-has32-2 : tie.Need-cast-has32-2 Inv-loop μ-loop
+cast-has32-2 c = search needs
+
 has32-requires : tie.Need-has32-requires Inv-loop μ-loop
 has32-requires c κs = search needs
 
 returns : tie.Need-returns Inv-loop μ-loop
 returns c =
-    let l = c .before .before .before .before .before .loop in
-    sym (backs-not (l .inv) (search needs) (c .before .before .before .lowest32 .ensures .0) (sym (c .before .has32 .ensures) ∙ not-yes _ (c .if1 .taken)))
+    let q = c .before .before .before .before in
+    let l = q .before .before .loop in
+    backs-not (l .inv) (search needs) (q .lowest32 .ensures .0) (sym (c .before .has32 .ensures) ∙ not-yes _ (c .if1 .taken))
 
 rest32-requires : tie.Need-rest32-requires Inv-loop μ-loop
 rest32-requires c κs = search needs
@@ -44,11 +48,13 @@ loop-less c = search needs
 
 loop-again : tie.Need-loop-again Inv-loop μ-loop
 loop-again c =
-    let l = c .before .before .before .before .before .before .loop in
-    backs-more (l .inv) (search needs) (c .before .before .before .before .lowest32 .ensures .0) (c .rest32 .ensures .0) (sym (c .before .before .has32 .ensures) ∙ not-no _ (c .before .if1 .left))
+    let h = c .before .before in
+    let q = h .before .before .before in
+    let l = q .before .before .loop in
+    backs-more (l .inv) (search needs) (q .lowest32 .ensures .0) (c .rest32 .ensures .0) (sym (h .has32 .ensures) ∙ not-no _ (c .before .if1 .left))
 
 returns-2 : tie.Need-returns-2 Inv-loop μ-loop
-returns-2 c = sym (backs-all (c .before .loop .inv) (omega arith))
+returns-2 c = backs-all (c .before .loop .inv) (omega arith)
 
 pub list-back-spec : {M : Type 1} → statement M
 list-back-spec =
@@ -61,6 +67,7 @@ list-back-spec =
     cast-has32
     mul-has32
     element-copy-out-has32
+    cast-has32-2
     has32-requires
     returns
     rest32-requires

@@ -1,17 +1,19 @@
 -- `network::rules::lowest_fault` meets its contract. Assumes nothing.
 use borrow.Author.Needs.{needs}
 use mathlib.Core.Path.{_≡_}
-use Prim.Native.Nat.{_-_, _≤_}
+use Prim.Native.Nat.{ℕ, _-_, _≤_}
 use native.Mathlib.Omega.{arith}
+use lib.ListN.{getD}
 use Rattle.sets.specs.Least.{lowestOf, lowestOf-start}
-use Rattle.network.specs.Network.{mk}
+use Rattle.network.specs.declared.Network.{Network}
+use Rattle.network.specs.Network.{withAll}
 use Rattle.network.specs.Rules.{faulty}
 use Rattle.network.specs.Faults.{faulty-on, faulty-found, faulty-none}
 use Rattle.network.proofs.rules.lowest_fault.Statement.{statement}
 use Rattle.network.proofs.rules.lowest_fault.Tie as tie
 
 abbrev Inv-loop : tie.InvT-loop
-Inv-loop heads present pubs subs neighbours pending seen known subscribers p₀ p = (p ≤ 32) × (p ≡ lowestOf p (faulty heads (mk present pubs subs neighbours pending seen known)))
+Inv-loop heads present pubs subs neighbours pending seen known subscribers p₀ p = (p ≤ 32) × ((n : Network) → p ≡ lowestOf p (faulty (λ (i : ℕ). getD heads i 0) (withAll n present pubs subs neighbours pending seen known)))
 
 abbrev μ-loop : tie.MeasureT-loop
 μ-loop heads present pubs subs neighbours pending seen known subscribers p₀ p = 32 - p
@@ -20,7 +22,7 @@ subscribers-requires : tie.Need-subscribers-requires Inv-loop μ-loop
 subscribers-requires c κs = search needs
 
 loop-holds : tie.Need-loop-holds Inv-loop μ-loop
-loop-holds c = (search needs, lowestOf-start _)
+loop-holds c = (search needs, λ n. lowestOf-start _)
 
 cast-i : tie.Need-cast-i Inv-loop μ-loop
 cast-i c = search needs
@@ -37,7 +39,7 @@ fault-requires c κs = search needs
 returns : tie.Need-returns Inv-loop μ-loop
 returns c =
     let l = c .before .before .before .before .before .loop in
-    faulty-found (l .p) _ _ (l .inv .1) (search needs) (c .before .fault .ensures) (c .if1 .taken)
+    λ n. faulty-found _ _ (l .p) (l .inv .1 n) (search needs) (c .before .fault .ensures n) (c .if1 .taken)
 
 add-p : tie.Need-add-p Inv-loop μ-loop
 add-p c = search needs
@@ -46,10 +48,12 @@ loop-less : tie.Need-loop-less Inv-loop μ-loop
 loop-less c = search needs
 
 loop-again : tie.Need-loop-again Inv-loop μ-loop
-loop-again c = (search needs, faulty-on _ _ _ (c .before .before .before .before .before .loop .inv .1) (c .before .fault .ensures) (c .if1 .left))
+loop-again c =
+    let l = c .before .before .before .before .before .loop in
+    (search needs, λ n. faulty-on _ _ _ (l .inv .1 n) (c .before .fault .ensures n) (c .if1 .left))
 
 returns-2 : tie.Need-returns-2 Inv-loop μ-loop
-returns-2 c = faulty-none _ _ _ (c .before .loop .inv .1) (omega arith)
+returns-2 c = λ n. faulty-none _ _ _ (c .before .loop .inv .1 n) (omega arith)
 
 pub lowest-fault-spec : {M : Type 1} → statement M
 lowest-fault-spec =

@@ -2,34 +2,48 @@
 use borrow.Author.Needs.{needs}
 use mathlib.Core.Path.{_≡_, sym, ap, _∙_}
 use mathlib.Core.Bool.{true, not}
-use mathlib.Core.List.{[]}
 use borrow.Author.Tests.{eq-eqb, ne-eqb}
-use Rattle.sets.specs.Bools.{not-yes, not-no}
 use Rattle.network.specs.declared.Network.{Network}
-use Rattle.network.specs.Network.{mk}
+use Rattle.network.specs.Network.{withPresent, withSubs, withNeighbours, withPending, withSeen, withKnown}
 use Rattle.network.specs.Rules.{ownRight, nearRight, backRight, knownRight, apartRight}
 use Rattle.network.specs.Faults.{fault-3, fault-4, fault-5, fault-6, fault-7, fault-none}
-use Rattle.network.specs.Tests.{back-is, known-is}
+use Rattle.network.specs.Tests.{near-is, back-is, known-is}
+use borrow.Author.Needs.{needs}
 use Rattle.network.proofs.rules.present_fault.Statement.{statement}
 use Rattle.network.proofs.rules.present_fault.Tie as tie
 
+-- the function's start, from where a test was passed
+abbrev start1 : tie.Else1 → tie.Start
+start1 c = c .before .before .before .before .before
+
+abbrev start2 : tie.Else2 → tie.Start
+start2 c = start1 (c .before .before)
+
+abbrev start3 : tie.Else3 → tie.Start
+start3 c = start2 (c .before .before)
+
+abbrev start4 : tie.Else4 → tie.Start
+start4 c = start3 (c .before .before)
+
 -- the network that the contract speaks of, and what each test that was passed says of it
-abbrev net : tie.Start → Network
-net s = mk (s .args .present) [] (s .args .subs .now) (s .args .neighbours .now) (s .args .pending .now) (s .args .seen .now) (s .args .known .now)
+abbrev net : Network → tie.Start → Network
+net n s =
+    withPresent (withSubs (withNeighbours (withPending (withSeen (withKnown n (s .args .known .now)) (s .args .seen .now)) (s .args .pending .now)) (s .args .neighbours .now)) (s .args .subs .now)) (s .args .present)
 
-own : (c : tie.Else1) → ownRight (net (c .before .before .before .before .before)) (c .before .before .before .before .before .args .p) ≡ true
+own : (n : Network) (c : tie.Else1) → ownRight (net n (start1 c)) (start1 c .args .p) ≡ true
 unfolding ownRight
-own c = ap not (sym (c .before .has32 .ensures) ∙ c .if1 .left)
+own n c = ap not (sym (c .before .has32 .ensures) ∙ c .if1 .left)
 
-near : (c : tie.Else2) → nearRight (net (c .before .before .before .before .before .before .before)) (c .before .before .before .before .before .before .before .args .p) ≡ true
-unfolding nearRight
-near c = eq-eqb _ _ (sym (c .before .minus32 .ensures) ∙ c .if2 .left)
+near : (n : Network) (c : tie.Else2) → nearRight (net n (start2 c)) (start2 c .args .p) ≡ true
+near n c =
+    let a = c .before .near-absent .ensures in
+    sym (near-is (net n (start2 c)) (start2 c .args .p) (a .1)) ∙ eq-eqb _ _ (sym (a .0) ∙ c .if2 .left)
 
-back : (c : tie.Else3) → backRight (net (c .before .before .before .before .before .before .before .before .before .before)) (c .before .before .before .before .before .before .before .before .before .before .args .p) ≡ true
-back c = sym (back-is _ _) ∙ sym (c .before .list-back .ensures) ∙ not-no _ (c .if3 .left)
+back : (n : Network) (c : tie.Else3) → backRight (net n (start3 c)) (start3 c .args .p) ≡ true
+back n c = sym (back-is _ _) ∙ eq-eqb _ _ (sym (c .before .list-back .ensures) ∙ c .if3 .left)
 
-known : (c : tie.Else4) → knownRight (net (c .before .before .before .before .before .before .before .before .before .before .before .before)) (c .before .before .before .before .before .before .before .before .before .before .before .before .args .p) ≡ true
-known c = sym (known-is _ _ (c .before .before .before .before .before .before .before .before .before .before .before .before .pre .1)) ∙ sym (c .before .row-known .ensures) ∙ not-no _ (c .if4 .left)
+known : (n : Network) (c : tie.Else4) → knownRight (net n (start4 c)) (start4 c .args .p) ≡ true
+known n c = sym (known-is (net n (start4 c)) _ (start4 c .pre .1)) ∙ eq-eqb _ _ (sym (c .before .row-known .ensures) ∙ c .if4 .left)
 
 cast-i : tie.Need-cast-i
 cast-i c = search needs
@@ -48,26 +62,24 @@ has32-requires c κs = search needs
 
 returns : tie.Need-returns
 unfolding ownRight
-returns c = fault-3 _ _ (ap not (sym (c .before .has32 .ensures) ∙ c .if1 .taken))
+returns c = λ n. fault-3 _ _ (ap not (sym (c .before .has32 .ensures) ∙ c .if1 .taken))
 
-minus32-requires : tie.Need-minus32-requires
-minus32-requires c κs = search needs
+near-absent-requires : tie.Need-near-absent-requires
+near-absent-requires c κs = search needs
 
 returns-2 : tie.Need-returns-2
-unfolding nearRight
-returns-2 c = fault-4 _ _ (own (c .before .before)) (ne-eqb _ _ λ e. c .if2 .taken (c .before .minus32 .ensures ∙ e))
-
-cast-list-back : tie.Need-cast-list-back
-cast-list-back c = search needs
+returns-2 c =
+    let e1 = c .before .before in
+    let a = c .before .near-absent .ensures in
+    λ n. fault-4 (net n (start1 e1)) (start1 e1 .args .p) (own n e1) (sym (near-is (net n (start1 e1)) (start1 e1 .args .p) (a .1)) ∙ ne-eqb _ _ λ e. c .if2 .taken (a .0 ∙ e))
 
 list-back-requires : tie.Need-list-back-requires
 list-back-requires c κs = search needs
 
 returns-3 : tie.Need-returns-3
 returns-3 c =
-    let e2 = c .before .before .before in
-    let e1 = e2 .before .before in
-    fault-5 _ _ (own e1) (near e2) (sym (back-is _ _) ∙ sym (c .before .list-back .ensures) ∙ not-yes _ (c .if3 .taken))
+    let e2 = c .before .before in
+    λ n. fault-5 _ _ (own n (e2 .before .before)) (near n e2) (sym (back-is _ _) ∙ ne-eqb _ _ λ e. c .if3 .taken (c .before .list-back .ensures ∙ e))
 
 row-known-requires : tie.Need-row-known-requires
 row-known-requires c κs = search needs
@@ -75,10 +87,9 @@ row-known-requires c κs = search needs
 returns-4 : tie.Need-returns-4
 returns-4 c =
     let e3 = c .before .before in
-    let e2 = e3 .before .before .before in
-    let e1 = e2 .before .before in
-    fault-6 _ _ (own e1) (near e2) (back e3)
-    (sym (known-is _ _ (e1 .before .before .before .before .before .pre .1)) ∙ sym (c .before .row-known .ensures) ∙ not-yes _ (c .if4 .taken))
+    let e2 = e3 .before .before in
+    λ n. fault-6 _ _ (own n (e2 .before .before)) (near n e2) (back n e3)
+    (sym (known-is (net n (start3 e3)) _ (start3 e3 .pre .1)) ∙ ne-eqb _ _ λ e. c .if4 .taken (c .before .row-known .ensures ∙ e))
 
 mul-meet64 : tie.Need-mul-meet64
 mul-meet64 c = search needs
@@ -100,18 +111,16 @@ unfolding apartRight
 returns-5 c =
     let e4 = c .before .before .before .before in
     let e3 = e4 .before .before in
-    let e2 = e3 .before .before .before in
-    let e1 = e2 .before .before in
-    fault-7 _ _ (own e1) (near e2) (back e3) (known e4) (ne-eqb _ _ λ e. c .if5 .taken (c .before .meet64 .ensures ∙ e))
+    let e2 = e3 .before .before in
+    λ n. fault-7 _ _ (own n (e2 .before .before)) (near n e2) (back n e3) (known n e4) (ne-eqb _ _ λ e. c .if5 .taken (c .before .meet64 .ensures ∙ e))
 
 returns-6 : tie.Need-returns-6
 unfolding apartRight
 returns-6 c =
     let e4 = c .before .before .before .before in
     let e3 = e4 .before .before in
-    let e2 = e3 .before .before .before in
-    let e1 = e2 .before .before in
-    fault-none _ _ (own e1) (near e2) (back e3) (known e4) (eq-eqb _ _ (sym (c .before .meet64 .ensures) ∙ c .if5 .left))
+    let e2 = e3 .before .before in
+    λ n. fault-none _ _ (own n (e2 .before .before)) (near n e2) (back n e3) (known n e4) (eq-eqb _ _ (sym (c .before .meet64 .ensures) ∙ c .if5 .left))
 
 pub present-fault-spec : {M : Type 1} → statement M
 present-fault-spec =
@@ -123,9 +132,8 @@ present-fault-spec =
     cast-has32
     has32-requires
     returns
-    minus32-requires
+    near-absent-requires
     returns-2
-    cast-list-back
     list-back-requires
     returns-3
     row-known-requires

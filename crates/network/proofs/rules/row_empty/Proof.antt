@@ -1,35 +1,37 @@
 -- `network::rules::row_empty` meets its contract. Assumes nothing.
 use borrow.Author.Needs.{needs}
-use mathlib.Core.Path.{_≡_, sym, _∙_}
+use mathlib.Core.Path.{_≡_, _∙_}
 use mathlib.Core.Logic.{⊎-elim}
-use Prim.Native.Nat.{ℕ, _+_, _-_, _*_, _≤_}
+use Prim.Native.Nat.{ℕ, _+_, _-_, _≤_}
 use native.Mathlib.Omega.{arith}
 use lib.Dec.{eqb}
 use lib.ListN.{getD}
 use borrow.Author.Tests.{eq-eqb, ne-eqb}
-use Rattle.sets.specs.Set.{meet}
 use Rattle.sets.specs.Any.{all, all-start}
 use Rattle.network.specs.Tests.{all-keep, all-lost, rowEmpty}
 use Rattle.network.proofs.rules.row_empty.Statement.{statement}
 use Rattle.network.proofs.rules.row_empty.Tie as tie
 
 abbrev Inv-loop : tie.InvT-loop
-Inv-loop known p same₀ t₀ same t = (t ≤ 32) × (same ≡ all t (λ (u : ℕ). eqb (getD known (p * 32 + u) 0) 0))
+Inv-loop known base same₀ t₀ same t = (t ≤ 32) × (same ≡ all t (λ (u : ℕ). eqb (getD known (base + u) 0) 0))
 
 abbrev μ-loop : tie.MeasureT-loop
-μ-loop known p same₀ t₀ same t = 32 - t
+μ-loop known base same₀ t₀ same t = 32 - t
+
+cast-base : tie.Need-cast-base Inv-loop μ-loop
+cast-base c = search needs
+
+mul-base : tie.Need-mul-base Inv-loop μ-loop
+mul-base c = search needs
 
 loop-holds : tie.Need-loop-holds Inv-loop μ-loop
 loop-holds c = (search needs, all-start _)
 
-mul-if1 : tie.Need-mul-if1 Inv-loop μ-loop
-mul-if1 c = search needs
-
 add-if1 : tie.Need-add-if1 Inv-loop μ-loop
 add-if1 c = search needs
 
-mul-if1-2 : tie.Need-mul-if1-2 Inv-loop μ-loop
-mul-if1-2 c = search needs
+mul-if1 : tie.Need-mul-if1 Inv-loop μ-loop
+mul-if1 c = search needs
 
 element-copy-out-if1 : tie.Need-element-copy-out-if1 Inv-loop μ-loop
 element-copy-out-if1 c = search needs
@@ -60,10 +62,11 @@ row-empty-spec =
     (tie.spec
     Inv-loop
     μ-loop
+    cast-base
+    mul-base
     loop-holds
-    mul-if1
     add-if1
-    mul-if1-2
+    mul-if1
     element-copy-out-if1
     add-t
     loop-less

@@ -1,38 +1,42 @@
 -- `network::rules::row_known` meets its contract. Assumes nothing.
 use borrow.Author.Needs.{needs}
-use mathlib.Core.Path.{_≡_, sym, _∙_}
-use mathlib.Core.Logic.{⊎-elim}
-use Prim.Native.Nat.{ℕ, _+_, _-_, _*_, _≤_}
+use mathlib.Core.Path.{_≡_, sym, ap, _∙_}
+use mathlib.Core.Bool.{not}
+use Prim.Native.Nat.{ℕ, _-_, _≤_}
 use native.Mathlib.Omega.{arith}
-use lib.Dec.{eqb}
-use lib.ListN.{getD}
 use borrow.Author.Tests.{eq-eqb, ne-eqb}
-use Rattle.sets.specs.Set.{meet}
-use Rattle.sets.specs.Any.{all, all-start}
-use Rattle.network.specs.Tests.{all-keep, all-lost, rowKnown}
+use Rattle.sets.specs.Least.{lowestOf, lowestOf-all, lowestOf-start, lowestOf-on, lowestOf-found}
+use Rattle.network.specs.Tests.{knownAt, rowKnown, known-at}
 use Rattle.network.proofs.rules.row_known.Statement.{statement}
 use Rattle.network.proofs.rules.row_known.Tie as tie
 
 abbrev Inv-loop : tie.InvT-loop
-Inv-loop known subscribers listed p same₀ t₀ same t = (t ≤ 32) × (same ≡ all t (λ (u : ℕ). eqb (getD known (p * 32 + u) 0) (meet (getD subscribers u 0) listed)))
+Inv-loop known subscribers listed p t₀ t = (t ≤ 32) × (t ≡ lowestOf t (λ (u : ℕ). not (knownAt known subscribers listed p u)))
 
 abbrev μ-loop : tie.MeasureT-loop
-μ-loop known subscribers listed p same₀ t₀ same t = 32 - t
+μ-loop known subscribers listed p t₀ t = 32 - t
+
+row-same-requires : tie.Need-row-same-requires Inv-loop μ-loop
+row-same-requires c κs = search needs
+
+returns : tie.Need-returns Inv-loop μ-loop
+unfolding rowKnown
+returns c = sym (lowestOf-all 32 _ (sym (c .before .row-same .ensures) ∙ c .if1 .taken))
 
 loop-holds : tie.Need-loop-holds Inv-loop μ-loop
-loop-holds c = (search needs, all-start _)
+loop-holds c = (search needs, lowestOf-start _)
 
-mul-if1 : tie.Need-mul-if1 Inv-loop μ-loop
-mul-if1 c = search needs
+spot-requires : tie.Need-spot-requires Inv-loop μ-loop
+spot-requires c κs = search needs
 
-add-if1 : tie.Need-add-if1 Inv-loop μ-loop
-add-if1 c = search needs
+mul-if2 : tie.Need-mul-if2 Inv-loop μ-loop
+mul-if2 c = search needs
 
-mul-if1-2 : tie.Need-mul-if1-2 Inv-loop μ-loop
-mul-if1-2 c = search needs
+element-copy-out-if2 : tie.Need-element-copy-out-if2 Inv-loop μ-loop
+element-copy-out-if2 c = search needs
 
-element-copy-out-if1 : tie.Need-element-copy-out-if1 Inv-loop μ-loop
-element-copy-out-if1 c = search needs
+cast-meet32 : tie.Need-cast-meet32 Inv-loop μ-loop
+cast-meet32 c = search needs
 
 mul-meet32 : tie.Need-mul-meet32 Inv-loop μ-loop
 mul-meet32 c = search needs
@@ -43,6 +47,18 @@ element-copy-out-meet32 c = search needs
 meet32-requires : tie.Need-meet32-requires Inv-loop μ-loop
 meet32-requires c κs = search needs
 
+cast-result : tie.Need-cast-result Inv-loop μ-loop
+cast-result c = search needs
+
+returns-2 : tie.Need-returns-2 Inv-loop μ-loop
+unfolding rowKnown
+returns-2 c =
+    let s = c .before .before .before .before in
+    let k = s .before .before in
+    let a = k .before .before .before .args in
+    let l = k .loop in
+    lowestOf-found 32 (l .t) _ (l .inv .1) (search needs) (ap not (sym (known-at (a .known .now) (a .subscribers .now) (a .listed) (a .p) (l .t) (s .spot .ensures) (c .before .meet32 .ensures)) ∙ ne-eqb _ _ (c .if2 .taken)))
+
 add-t : tie.Need-add-t Inv-loop μ-loop
 add-t c = search needs
 
@@ -51,18 +67,15 @@ loop-less c = search needs
 
 loop-again : tie.Need-loop-again Inv-loop μ-loop
 loop-again c =
-    let l = c .before .before .before .before .before .loop in
-    let m = c .before .meet32 .ensures in (
-      search needs,
-      ⊎-elim
-          (λ w. w .1 ∙ all-lost (l .t) _ (ne-eqb _ _ (λ e. w .0 .taken (e ∙ sym m))))
-          (λ w. w .1 ∙ all-keep (l .t) _ (l .inv .1) (eq-eqb _ _ (w .0 .left ∙ m)))
-          (c .if1 .came),
-    )
+    let s = c .before .before .before .before in
+    let k = s .before .before in
+    let a = k .before .before .before .args in
+    let l = k .loop in
+    (search needs, lowestOf-on (l .t) _ (l .inv .1) (ap not (sym (known-at (a .known .now) (a .subscribers .now) (a .listed) (a .p) (l .t) (s .spot .ensures) (c .before .meet32 .ensures)) ∙ eq-eqb _ _ (c .if2 .left))))
 
-returns : tie.Need-returns Inv-loop μ-loop
+returns-3 : tie.Need-returns-3 Inv-loop μ-loop
 unfolding rowKnown
-returns c = let e : c .before .loop .t ≡ 32 = omega arith in rw e at (c .before .loop .inv .1)
+returns-3 c = let e : c .before .loop .t ≡ 32 = omega arith in rw e at (c .before .loop .inv .1)
 
 pub row-known-spec : {M : Type 1} → statement M
 row-known-spec =
@@ -70,15 +83,19 @@ row-known-spec =
     (tie.spec
     Inv-loop
     μ-loop
+    row-same-requires
+    returns
     loop-holds
-    mul-if1
-    add-if1
-    mul-if1-2
-    element-copy-out-if1
+    spot-requires
+    mul-if2
+    element-copy-out-if2
+    cast-meet32
     mul-meet32
     element-copy-out-meet32
     meet32-requires
+    cast-result
+    returns-2
     add-t
     loop-less
     loop-again
-    returns)
+    returns-3)

@@ -38,8 +38,8 @@ loop-less c = search needs
 
 loop-again : tie.Need-loop-again Inv-loop μ-loop
 loop-again c =
-    let l = c .before .before .before .before .loop in
-    (search needs, subscribers-more (c .before .before .before .before .before .args .subs .now) (l .q) (l .inv .1) (c .join .ensures))
+    let l = c .before .before .before .before in
+    (search needs, subscribers-more (l .before .args .subs .now) (l .loop .q) (l .loop .inv .1) (c .join .ensures))
 
 returns : tie.Need-returns Inv-loop μ-loop
 unfolding subscribersOf

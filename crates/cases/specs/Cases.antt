@@ -25,7 +25,8 @@ use Rattle.floodnet.specs.Forward.{moved, receivers, given, forwarded, deliveri
 use Rattle.floodnet.specs.Topics.{withoutIf}
 use Rattle.floodnet.specs.Links.{unionIf, minusIf, keepIf, linkUp, linkDown, cleared, placed, left, joined}
 use Rattle.floodnet.specs.Refusals.{need, refusalProduce, refusalForward, refusalLeave, refusalJoin}
-use Rattle.floodnet.specs.Step.{refusal, effect, ifAccepted, after, kindOf, deliveriesOf, turned, turnedOf}
+use Rattle.events.specs.Kind.{kindOf}
+use Rattle.floodnet.specs.Step.{refusal, effect, ifAccepted, after, deliveriesOf, turned, turnedOf}
 use Rattle.floodnet.specs.View.{view, fwd}
 use Rattle.broadcastnet.specs.Commit.{together, underway, without, image}
 use Rattle.drain.specs.Drain.{drainOf, quietOf}

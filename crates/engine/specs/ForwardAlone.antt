@@ -18,6 +18,7 @@ use Rattle.events.specs.Fits.{EventFits}
 use Rattle.floodnet.specs.declared.Turned.{Turned}
 use Rattle.floodnet.specs.Refusals.{refusalForward}
 use Rattle.floodnet.specs.Forward.{forwarded, deliveries}
+use Rattle.events.specs.declared.kind.Kind.{Kind}
 use Rattle.floodnet.specs.Step.{refusal, effect, ifAccepted, after, deliveriesOf, turned, turnedOf}
 use Rattle.engine.specs.declared.Begun.{Begun}
 use Rattle.engine.specs.declared.Forwarded.{Forwarded}
@@ -40,7 +41,7 @@ Gives r s f = (r ≡ f .answer) × (s ≡ f .state)
 -- ---- the event, as floodnet answers it
 
 -- the number is that of the forward's conditions
-turned-number : (k kind d : ℕ) → turned k kind d .number ≡ k
+turned-number : (k : ℕ) (kind : Kind) (d : ℕ) → turned k kind d .number ≡ k
 unfolding turned
 turned-number zero kind d = refl
 turned-number (suc k) kind d = refl

@@ -18,7 +18,8 @@ use Rattle.events.specs.Fits.{EventFits}
 use Rattle.events.specs.RoundTrip.{record-length, read-record}
 use Rattle.floodnet.specs.Refusals.{refusalForward}
 use Rattle.floodnet.specs.Forward.{forwarded, deliveries}
-use Rattle.floodnet.specs.Step.{refusal, effect, ifAccepted, after, kindOf, deliveriesOf, turned, turnedOf}
+use Rattle.events.specs.Kind.{kindOf}
+use Rattle.floodnet.specs.Step.{refusal, effect, ifAccepted, after, deliveriesOf, turned, turnedOf}
 use Rattle.engine.specs.declared.Tally.{Tally}
 use Rattle.engine.specs.declared.Begun.{Begun}
 use Rattle.engine.specs.Start.{beginOf}

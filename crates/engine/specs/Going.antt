@@ -7,6 +7,8 @@ use native.Mathlib.Omega.{arith}
 use lib.Dec.{eqb}
 use Rattle.network.specs.declared.Network.{Network}
 use Rattle.network.specs.declared.Table.{Table}
+use Rattle.events.specs.declared.kind.Kind.{Kind}
+use Rattle.events.specs.declared.kind.Kind.the-variants.{Skip, Produce, Forward, Subscribe, Unsubscribe, Leave, Join}
 use Rattle.engine.specs.declared.Tally.{Tally}
 use Rattle.engine.specs.Run.{tally, zeroTally, Room, talliedOf, Final, stopsAt, allDone, runFrom}
 use Rattle.engine.specs.RunLaws.{outcomeAt, tallyAfter, run-on, run-stops}
@@ -19,18 +21,16 @@ pub record Going (ev : List ℕ) (b : Table) (count place : ℕ) (n : Network) (
   pub deliveries : t .deliveries ≤ 32 * place
 
 -- a tally grows by one event at most
-grows : (t : Tally) (kind d : ℕ) → d ≤ 32
+grows : (t : Tally) (kind : Kind) (d : ℕ) → d ≤ 32
     → (talliedOf t kind d .produced ≤ t .produced + 1) × (talliedOf t kind d .forwards ≤ t .forwards + 1) × (talliedOf t kind d .deliveries ≤ t .deliveries + 32)
 unfolding talliedOf
-grows t kind d h = first (eqb kind 1) (eqb kind 2)
-  where
-    after : Bool → Bool → Tally
-    after x y = cond x (tally (t .produced + 1) (t .forwards) (t .deliveries)) (cond y (tally (t .produced) (t .forwards + 1) (t .deliveries + d)) t)
-
-    first : (x y : Bool) → (after x y .produced ≤ t .produced + 1) × (after x y .forwards ≤ t .forwards + 1) × (after x y .deliveries ≤ t .deliveries + 32)
-    first true y = (omega arith, omega arith, omega arith)
-    first false true = (omega arith, omega arith, omega arith)
-    first false false = (omega arith, omega arith, omega arith)
+grows t Skip d h = (omega arith, omega arith, omega arith)
+grows t Produce d h = (omega arith, omega arith, omega arith)
+grows t Forward d h = (omega arith, omega arith, omega arith)
+grows t Subscribe d h = (omega arith, omega arith, omega arith)
+grows t Unsubscribe d h = (omega arith, omega arith, omega arith)
+grows t Leave d h = (omega arith, omega arith, omega arith)
+grows t Join d h = (omega arith, omega arith, omega arith)
 
 module _ (ev : List ℕ) (b : Table) (count : ℕ) where
   pub going-start : (n : Network) → Going ev b count 0 n zeroTally (runFrom count ev 0 b n zeroTally)

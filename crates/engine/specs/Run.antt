@@ -15,6 +15,8 @@ use Rattle.network.specs.State.{bytesOf}
 use Rattle.events.specs.declared.Read.{Read}
 use Rattle.events.specs.declared.Read.the-variants.{Taken, End, Refused}
 use Rattle.events.specs.Event.{readAt}
+use Rattle.events.specs.declared.kind.Kind.{Kind}
+use Rattle.events.specs.declared.kind.Kind.the-variants.{Skip, Produce, Forward, Subscribe, Unsubscribe, Leave, Join}
 use Rattle.floodnet.specs.declared.Turned.{Turned}
 use Rattle.floodnet.specs.Step.{after, turnedOf}
 use Rattle.engine.specs.declared.Tally.{Tally}
@@ -37,11 +39,15 @@ pub record Room (t : Tally) (d : ℕ) : Type 0 where
   pub forwards : t .forwards + 1 < 2 ^ 64
   pub deliveries : t .deliveries + d < 2 ^ 64
 
--- "Produced and forwards are the accepted events of those kinds; deliveries is the sum of theirs." Kind 1 is a produce, 2 a forward.
-unfoldable pub talliedOf : Tally → ℕ → ℕ → Tally
-talliedOf t kind d =
-    cond (eqb kind 1) (tally (t .produced + 1) (t .forwards) (t .deliveries))
-    (cond (eqb kind 2) (tally (t .produced) (t .forwards + 1) (t .deliveries + d)) t)
+-- "Produced and forwards are the accepted events of those kinds; deliveries is the sum of theirs."
+unfoldable pub talliedOf : Tally → Kind → ℕ → Tally
+talliedOf t Skip d = t
+talliedOf t Produce d = tally (t .produced + 1) (t .forwards) (t .deliveries)
+talliedOf t Forward d = tally (t .produced) (t .forwards + 1) (t .deliveries + d)
+talliedOf t Subscribe d = t
+talliedOf t Unsubscribe d = t
+talliedOf t Leave d = t
+talliedOf t Join d = t
 
 -- ---- one event
 
@@ -49,9 +55,9 @@ pub record Outcome : Type 0 where
   pub turned : Turned
   pub network : Network
 
--- nothing was done: refused by a number, or nothing was there (0)
+-- there was no event: refused by a number, or the end (0); its kind is that of doing nothing
 abbrev pub refusedBy : ℕ → Turned
-refusedBy number = record { number = number; kind = 0; deliveries = 0 }
+refusedBy number = record { number = number; kind = Skip; deliveries = 0 }
 
 -- what was read is done, or refused by 6 or 7
 unfoldable pub turnOf : Table → Network → Read → Outcome

@@ -18,7 +18,8 @@ use Rattle.events.specs.declared.Event.{Event}
 use Rattle.events.specs.declared.Read.{Read}
 use Rattle.events.specs.declared.Read.the-variants.{Taken, End, Refused}
 use Rattle.events.specs.Event.{readAt}
-use Rattle.floodnet.specs.Step.{refusal, effect, ifAccepted, after, kindOf, deliveriesOf, turned, turnedOf}
+use Rattle.events.specs.Kind.{kindOf}
+use Rattle.floodnet.specs.Step.{refusal, effect, ifAccepted, after, deliveriesOf, turned, turnedOf}
 use Rattle.broadcastnet.specs.Commit.{image}
 use Rattle.broadcastnet.specs.Page.{Accepted, effects, images, Path}
 use Rattle.broadcastnet.proofs.Refines.{images-follow}

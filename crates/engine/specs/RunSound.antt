@@ -21,9 +21,11 @@ use Rattle.events.specs.declared.Event.the-variants.{Skip, Produce, Forward, Su
 use Rattle.events.specs.declared.Read.{Read}
 use Rattle.events.specs.declared.Read.the-variants.{Taken, End, Refused}
 use Rattle.events.specs.Event.{readAt}
+use Rattle.events.specs.declared.kind.Kind.{Kind}
+use Rattle.events.specs.Kind.{kindOf, codeOf, alike}
 use Rattle.events.specs.Fits.{EventFits}
 use Rattle.events.specs.RoundTrip.{read-fits}
-use Rattle.floodnet.specs.Step.{refusal, effect, ifAccepted, after, kindOf, deliveriesOf, turned, turnedOf}
+use Rattle.floodnet.specs.Step.{refusal, effect, ifAccepted, after, deliveriesOf, turned, turnedOf}
 use Rattle.floodnet.specs.StepLaws.{after-sound, effect-pairs, isKind}
 use Rattle.floodnet.specs.View.{pairs}
 use Rattle.floodnet.specs.declared.Turned.{Turned}
@@ -57,23 +59,23 @@ turn-sound s rows (Refused k) f = s
 
 -- pairs after an accepted event, by what the tally counts of it
 turn-pairs : {b : Table} {n : Network} → Sound n → Rows b → (r : Read) → ReadFits r → turnOf b n r .turned .number ≡ 0
-    → pairs (turnOf b n r .network) + digit (eqb (turnOf b n r .turned .kind) 2)
-    ≡ pairs n + (digit (eqb (turnOf b n r .turned .kind) 1) + turnOf b n r .turned .deliveries)
-unfolding turnOf ReadFits turnedOf turned after ifAccepted
+    → pairs (turnOf b n r .network) + digit (alike (turnOf b n r .turned .kind) Kind.Forward)
+    ≡ pairs n + (digit (alike (turnOf b n r .turned .kind) Kind.Produce) + turnOf b n r .turned .deliveries)
+unfolding turnOf ReadFits turnedOf turned after ifAccepted codeOf alike
 turn-pairs {b} {n} s rows (Taken e) f h = first (refusal n b e) refl h
   where
     answer : ℕ → Turned
     answer k = turned k (kindOf e) (deliveriesOf n b e)
 
     first : (k : ℕ) → refusal n b e ≡ k → answer k .number ≡ 0
-        → pairs (ifAccepted k (effect n b e) n) + digit (eqb (answer k .kind) 2) ≡ pairs n + (digit (eqb (answer k .kind) 1) + answer k .deliveries)
+        → pairs (ifAccepted k (effect n b e) n) + digit (alike (answer k .kind) Kind.Forward) ≡ pairs n + (digit (alike (answer k .kind) Kind.Produce) + answer k .deliveries)
     first zero z i = effect-pairs s rows e f z
     first (suc k) z i = absurd (omega arith)
 turn-pairs s rows End f h = refl
 turn-pairs s rows (Refused k) f h = refl
 
 -- an event that is no forward delivers nothing
-event-delivers : (n : Network) (b : Table) (e : Event) → (kindOf e ≡ 2) ⊎ (deliveriesOf n b e ≡ 0)
+event-delivers : (n : Network) (b : Table) (e : Event) → (kindOf e ≡ Kind.Forward) ⊎ (deliveriesOf n b e ≡ 0)
 unfolding kindOf deliveriesOf
 event-delivers n b Skip = inr refl
 event-delivers n b (Produce p m) = inr refl
@@ -83,11 +85,11 @@ event-delivers n b (Unsubscribe p topics) = inr refl
 event-delivers n b (Leave p) = inr refl
 event-delivers n b (Join p j) = inr refl
 
-turn-delivers : (b : Table) (n : Network) (r : Read) → (turnOf b n r .turned .kind ≡ 2) ⊎ (turnOf b n r .turned .deliveries ≡ 0)
+turn-delivers : (b : Table) (n : Network) (r : Read) → (turnOf b n r .turned .kind ≡ Kind.Forward) ⊎ (turnOf b n r .turned .deliveries ≡ 0)
 unfolding turnOf turnedOf turned
 turn-delivers b n (Taken e) = first (refusal n b e)
   where
-    first : (k : ℕ) → (turned k (kindOf e) (deliveriesOf n b e) .kind ≡ 2) ⊎ (turned k (kindOf e) (deliveriesOf n b e) .deliveries ≡ 0)
+    first : (k : ℕ) → (turned k (kindOf e) (deliveriesOf n b e) .kind ≡ Kind.Forward) ⊎ (turned k (kindOf e) (deliveriesOf n b e) .deliveries ≡ 0)
     first zero = event-delivers n b e
     first (suc k) = inr refl
 turn-delivers b n End = inr refl
@@ -118,7 +120,7 @@ module _ (ev : List ℕ) (h : Bytes ev) (b : Table) (rows : Rows b) where
             );
       }
     where
-      kind : ℕ
+      kind : Kind
       kind = outcomeAt ev place b n .turned .kind
 
       d : ℕ

@@ -2,19 +2,20 @@
 ghost use mathlib.Core.Path.{_≡_};
 ghost use Rattle.engine.specs.Run.{talliedOf, tally, Room};
 use crate::Tally;
+use events::kind::Kind;
 
-// One event more: kind 1 is a produce, 2 a forward.
-pub(crate) fn tallied(t: Tally, kind: u8, deliveries: u32) -> Tally
+// One accepted event more.
+pub(crate) fn tallied(t: Tally, kind: Kind, deliveries: u32) -> Tally
     requires { ⌜ Room t deliveries ⌝ }
     ensures { λ r. ⌜ r ≡ talliedOf t kind deliveries ⌝ }
 {
     match kind {
-        1 => Tally {
+        Kind::Produce => Tally {
             produced: t.produced + 1,
             forwards: t.forwards,
             deliveries: t.deliveries,
         },
-        2 => Tally {
+        Kind::Forward => Tally {
             produced: t.produced,
             forwards: t.forwards + 1,
             deliveries: t.deliveries + deliveries as u64,
@@ -28,7 +29,7 @@ pub(crate) fn count_in(
     produced: &mut u64,
     forwards: &mut u64,
     deliveries: &mut u64,
-    kind: u8,
+    kind: Kind,
     count: u32,
 )
     requires { ⌜ Room (tally (now produced) (now forwards) (now deliveries)) count ⌝ }

@@ -12,6 +12,7 @@ use crate::Ran;
 use crate::counts;
 use crate::start;
 use events::Read;
+use events::kind::Kind;
 use floodnet::Turned;
 use network::Network;
 use network::Table;
@@ -22,7 +23,7 @@ fn refused(number: u8) -> Turned
 {
     Turned {
         number,
-        kind: 0,
+        kind: Kind::Skip,
         deliveries: 0,
     }
 }
@@ -115,11 +116,12 @@ pub(crate) fn run_parts(
         if number != 0 {
             return answer(number, place, place);
         }
+        let kind = turned.kind;
         counts::count_in(
             &mut *produced,
             &mut *forwards,
             &mut *deliveries,
-            turned.kind,
+            kind,
             turned.deliveries,
         );
         place += 1;

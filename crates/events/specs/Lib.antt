@@ -1,4 +1,5 @@
 pub mod Event
+pub mod Kind
 pub mod Writing
 pub mod Fits
 pub mod Decoded

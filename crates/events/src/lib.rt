@@ -17,6 +17,7 @@ ghost use Rattle.events.specs.Event.{orSeven, decodeOf, fieldsAt, readAt
 ghost use Rattle.events.specs.Writing.{fieldsMk, fieldsOf, putHead, putFields, recordOf, writtenAt};
 
 mod judge; // judge.rt: what refusal 7 tests, kind by kind
+pub mod kind; // kind.rt: the kind of an event, for the answers
 
 use network::Message;
 use network::Peer;

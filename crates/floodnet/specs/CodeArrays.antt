@@ -84,16 +84,16 @@ next-inside r t q new small = record {
     go i d false e = rw (has-only r (i / 32), e) refl
 
 -- a turn of `row_note`: p is put in for the topic q
-pub noting : {s left left′ q v : ℕ} {l₀ l : List ℕ} (r p : ℕ) → Picking s left (inside (only r)) (puts p) l₀ l → 0 < left → q ≡ lowest 32 left
-    → left′ ≡ minus left (only (lowest 32 left)) → v ≡ union (getD l (r * 32 + q) 0) (only p) → Picking s left′ (inside (only r)) (puts p) l₀ (set l (r * 32 + q) v)
+pub noting : {s left left′ q k v : ℕ} {l₀ l : List ℕ} (r p : ℕ) → Picking s left (inside (only r)) (puts p) l₀ l → 0 < left → q ≡ lowest 32 left
+    → left′ ≡ minus left (only (lowest 32 left)) → k ≡ r * 32 + q → v ≡ union (getD l k 0) (only p) → Picking s left′ (inside (only r)) (puts p) l₀ (set l k v)
 unfolding puts
-noting {q = q} r p a b eq el ev = picking-store (inside (only r)) (puts p) (r * 32 + q) a b eq el ev (λ t. next-inside r t q)
+noting {q = q} {k = k} r p a b eq el ek ev = picking-store (inside (only r)) (puts p) k a b eq el ev (λ t n c. rw ek (next-inside r t q n c))
 
 -- a turn of `row_strike`: p is struck out for the topic q
-pub striking : {s left left′ q v : ℕ} {l₀ l : List ℕ} (r p : ℕ) → Picking s left (inside (only r)) (strikes (only p)) l₀ l → 0 < left → q ≡ lowest 32 left
-    → left′ ≡ minus left (only (lowest 32 left)) → v ≡ minus (getD l (r * 32 + q) 0) (only p) → Picking s left′ (inside (only r)) (strikes (only p)) l₀ (set l (r * 32 + q) v)
+pub striking : {s left left′ q k v : ℕ} {l₀ l : List ℕ} (r p : ℕ) → Picking s left (inside (only r)) (strikes (only p)) l₀ l → 0 < left → q ≡ lowest 32 left
+    → left′ ≡ minus left (only (lowest 32 left)) → k ≡ r * 32 + q → v ≡ minus (getD l k 0) (only p) → Picking s left′ (inside (only r)) (strikes (only p)) l₀ (set l k v)
 unfolding strikes
-striking {q = q} r p a b eq el ev = picking-store (inside (only r)) (strikes (only p)) (r * 32 + q) a b eq el ev (λ t. next-inside r t q)
+striking {q = q} {k = k} r p a b eq el ek ev = picking-store (inside (only r)) (strikes (only p)) k a b eq el ev (λ t n c. rw ek (next-inside r t q n c))
 
 -- such edits in the words of Topics
 pub inside-noted : (s topics : ℕ) (p : Peer) (l : List ℕ) → edit (picks (inside s topics) (puts (p .0))) l ≡ noted s topics p l

@@ -4,7 +4,8 @@ use mathlib.Core.Bool.{Bool, true, false, not}
 use Prim.Native.Nat.{ℕ}
 use lib.Dec.{eqb}
 use borrow.Author.Tests.{not-true, not-false, eq-eqb, ne-eqb}
-use Rattle.sets.specs.Set.{sift}
+use Rattle.sets.specs.Set.{has, sift}
+use Rattle.network.specs.declared.Topic.{Topic}
 use Rattle.network.specs.declared.Message.{Message}
 use Rattle.network.specs.declared.Network.{Network}
 use Rattle.floodnet.specs.Produce.{holders}
@@ -36,6 +37,10 @@ test-bars h e = ap not (sym h ∙ e)
 -- the test `r` is false: t is false
 pub test-frees : {r t : Bool} → r ≡ t → r ≡ false → not t ≡ true
 test-frees h e = ap not (sym h ∙ e)
+
+-- r tests for the topic t, and the condition is of u, which is t
+pub test-topic : {r : Bool} {t u : Topic} (w : ℕ) → r ≡ has w (t .0) → t ≡ u → r ≡ has w (u .0)
+test-topic w h e = h ∙ ap (λ (x : Topic). has w (x .0)) e
 
 -- the test `w != 0`, where the condition is that x, which is w, is nothing
 pub some-fails : {w x : ℕ} → w ≡ x → (w ≡ 0 → ⊥) → eqb x 0 ≡ false

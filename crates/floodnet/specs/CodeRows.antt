@@ -56,19 +56,19 @@ pub row-none : (r : ℕ) (h : ℕ → ℕ) (l : List ℕ) → l ≡ edit (picks 
 row-none r h l = edit-none (picks (front r 0) h) l (λ i. picks-none (front r 0) h i (getD l i 0) (front-none r i))
 
 -- one word more is stored to
-row-more : (r n : ℕ) (h : ℕ → ℕ) (l₀ : List ℕ) {v : ℕ} {l : List ℕ} → n < 32 → l ≡ edit (picks (front r n) h) l₀ → v ≡ h (getD l (r * 32 + n) 0)
-    → set l (r * 32 + n) v ≡ edit (picks (front r (n + 1)) h) l₀
-row-more r n h l₀ {v} {l} b e ev =
-    ap (set l (r * 32 + n)) ev ∙ ap (λ (x : List ℕ). set x (r * 32 + n) (h (getD x (r * 32 + n) 0))) e
-    ∙ picks-store (front r n) (front r (n + 1)) h l₀ (r * 32 + n) (front-next r n b)
+row-more : (r n : ℕ) (h : ℕ → ℕ) (l₀ : List ℕ) {k v : ℕ} {l : List ℕ} → n < 32 → l ≡ edit (picks (front r n) h) l₀ → k ≡ r * 32 + n → v ≡ h (getD l k 0)
+    → set l k v ≡ edit (picks (front r (n + 1)) h) l₀
+row-more r n h l₀ {k} {v} {l} b e ek ev =
+    ap (set l k) ev ∙ ap (λ (x : List ℕ). set x k (h (getD x k 0))) e
+    ∙ picks-store (front r n) (front r (n + 1)) h l₀ k (rw ek (front-next r n b))
 
 -- the whole row
 row-all : (r : ℕ) (h : ℕ → ℕ) (l : List ℕ) → edit (picks (front r 32) h) l ≡ edit (picks (λ i. eqb (i / 32) r) h) l
 row-all r h l = picks-same (front r 32) (λ i. eqb (i / 32) r) h l (front-all r)
 
 -- the loop that strikes out s
-pub row-minus-more : (r n s : ℕ) (l₀ : List ℕ) {v : ℕ} {l : List ℕ} → n < 32 → l ≡ edit (picks (front r n) (strikes s)) l₀ → v ≡ minus (getD l (r * 32 + n) 0) s
-    → set l (r * 32 + n) v ≡ edit (picks (front r (n + 1)) (strikes s)) l₀
+pub row-minus-more : (r n s : ℕ) (l₀ : List ℕ) {k v : ℕ} {l : List ℕ} → n < 32 → l ≡ edit (picks (front r n) (strikes s)) l₀ → k ≡ r * 32 + n
+    → v ≡ minus (getD l k 0) s → set l k v ≡ edit (picks (front r (n + 1)) (strikes s)) l₀
 unfolding strikes
 row-minus-more r n s = row-more r n (strikes s)
 
@@ -77,9 +77,9 @@ pub row-minus-all : (r n s : ℕ) (l₀ : List ℕ) {l : List ℕ} → l ≡ edi
 row-minus-all r n s l₀ e z = e ∙ ap (λ (x : ℕ). edit (picks (front r x) (strikes s)) l₀) z ∙ row-all r (strikes s) l₀ ∙ picks-minus (λ i. eqb (i / 32) r) s l₀
 
 -- the loop that strikes out all
-pub row-clear-more : (r n : ℕ) (l₀ : List ℕ) {l : List ℕ} → n < 32 → l ≡ edit (picks (front r n) blanks) l₀ → set l (r * 32 + n) 0 ≡ edit (picks (front r (n + 1)) blanks) l₀
+pub row-clear-more : (r n : ℕ) (l₀ : List ℕ) {k : ℕ} {l : List ℕ} → n < 32 → l ≡ edit (picks (front r n) blanks) l₀ → k ≡ r * 32 + n → set l k 0 ≡ edit (picks (front r (n + 1)) blanks) l₀
 unfolding blanks
-row-clear-more r n l₀ b e = row-more r n blanks l₀ b e refl
+row-clear-more r n l₀ b e ek = row-more r n blanks l₀ b e ek refl
 
 -- the whole row blank
 pub row-clear-all : (r n : ℕ) (l₀ : List ℕ) {l : List ℕ} → l ≡ edit (picks (front r n) blanks) l₀ → n ≡ 32 → l ≡ edit (λ i w. keepIf (not (eqb (i / 32) r)) w) l₀

@@ -6,9 +6,11 @@ use Rattle.network.specs.declared.Network.{Network}
 use Rattle.network.specs.declared.Table.{Table}
 use Rattle.network.specs.Network.{bare}
 use Rattle.events.specs.declared.Event.{Event}
+use Rattle.events.specs.declared.kind.Kind.{Kind}
+use Rattle.events.specs.Kind.{kindOf}
 use Rattle.events.specs.Fits.{EventFits}
 use Rattle.floodnet.specs.declared.Turned.{Turned}
-use Rattle.floodnet.specs.Step.{refusal, effect, ifAccepted, after, kindOf, deliveriesOf, turned, turnedOf}
+use Rattle.floodnet.specs.Step.{refusal, effect, ifAccepted, after, deliveriesOf, turned, turnedOf}
 
 -- the event e made n′ of n and was answered by r
 pub record Stepped (n n′ : Network) (b : Table) (e : Event) (r : Turned) : Type 0 where
@@ -17,25 +19,25 @@ pub record Stepped (n n′ : Network) (b : Table) (e : Event) (r : Turned) : Typ
   pub few : r .deliveries ≤ 32
 
 -- the two ways to answer
-pub turned-refused : (k kind d : ℕ) → 0 < k → record { number = k; kind = 0; deliveries = 0 } ≡ turned k kind d
+pub turned-refused : (k : ℕ) (kind : Kind) (d : ℕ) → 0 < k → record { number = k; kind = kind; deliveries = 0 } ≡ turned k kind d
 unfolding turned
 turned-refused zero kind d h = absurd (omega arith)
 turned-refused (suc k) kind d h = refl
 
 -- a refused event changes nothing
-pub stepped-refused : {n : Network} {b : Table} {e : Event} {r : Turned} (k : ℕ) → k ≡ refusal n b e → (k ≡ 0 → ⊥) → ((kind d : ℕ) → r ≡ turned k kind d) → Stepped n n b e r
+pub stepped-refused : {n : Network} {b : Table} {e : Event} {r : Turned} (k : ℕ) → k ≡ refusal n b e → (k ≡ 0 → ⊥) → ((d : ℕ) → r ≡ turned k (kindOf e) d) → Stepped n n b e r
 unfolding after turnedOf ifAccepted turned
 stepped-refused {n} {b} {e} {r} k h z a = record {
   state = go k z ∙ ap (λ (x : ℕ). ifAccepted x (effect n b e) n) h;
-  answer = a (kindOf e) (deliveriesOf n b e) ∙ ap (λ (x : ℕ). turned x (kindOf e) (deliveriesOf n b e)) h;
-  few = rw (a 0 0) (none k);
+  answer = a (deliveriesOf n b e) ∙ ap (λ (x : ℕ). turned x (kindOf e) (deliveriesOf n b e)) h;
+  few = rw (a 0) (none k);
 }
   where
     go : (k : ℕ) → (k ≡ 0 → ⊥) → n ≡ ifAccepted k (effect n b e) n
     go zero z = absurd (z refl)
     go (suc k) z = refl
 
-    none : (k : ℕ) → turned k 0 0 .deliveries ≤ 32
+    none : (k : ℕ) → turned k (kindOf e) 0 .deliveries ≤ 32
     none zero = omega arith
     none (suc k) = omega arith
 

@@ -5,6 +5,8 @@ use Rattle.network.specs.declared.Network.{Network}
 use Rattle.network.specs.declared.Table.{Table}
 use Rattle.events.specs.declared.Event.{Event}
 use Rattle.events.specs.declared.Event.the-variants.{Skip, Produce, Forward, Subscribe, Unsubscribe, Leave, Join}
+use Rattle.events.specs.declared.kind.Kind.{Kind}
+use Rattle.events.specs.Kind.{kindOf}
 use Rattle.floodnet.specs.declared.Turned.{Turned}
 use Rattle.floodnet.specs.Produce.{produced}
 use Rattle.floodnet.specs.Forward.{forwarded, deliveries}
@@ -41,16 +43,6 @@ ifAccepted (suc k) x n = n
 unfoldable pub after : Network → Table → Event → Network
 after n b e = ifAccepted (refusal n b e) (effect n b e) n
 
--- the kinds that the tally counts: 1 produce, 2 forward, 0 any other
-unfoldable pub kindOf : Event → ℕ
-kindOf Skip = 0
-kindOf (Produce p m) = 1
-kindOf (Forward p m) = 2
-kindOf (Subscribe p topics) = 0
-kindOf (Unsubscribe p topics) = 0
-kindOf (Leave p) = 0
-kindOf (Join p j) = 0
-
 -- how many deliveries an accepted event makes
 unfoldable pub deliveriesOf : Network → Table → Event → ℕ
 deliveriesOf n b Skip = 0
@@ -61,10 +53,10 @@ deliveriesOf n b (Unsubscribe p topics) = 0
 deliveriesOf n b (Leave p) = 0
 deliveriesOf n b (Join p j) = 0
 
--- the answer: the number, and what the event counts for; a refused event counts for nothing
-unfoldable pub turned : ℕ → ℕ → ℕ → Turned
+-- the answer: the number, the kind of the event, and its deliveries; a refused event makes none
+unfoldable pub turned : ℕ → Kind → ℕ → Turned
 turned zero kind d = record { number = 0; kind = kind; deliveries = d }
-turned (suc k) kind d = record { number = suc k; kind = 0; deliveries = 0 }
+turned (suc k) kind d = record { number = suc k; kind = kind; deliveries = 0 }
 
 unfoldable pub turnedOf : Network → Table → Event → Turned
 turnedOf n b e = turned (refusal n b e) (kindOf e) (deliveriesOf n b e)

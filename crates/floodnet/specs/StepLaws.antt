@@ -19,13 +19,15 @@ use Rattle.network.specs.Network.{peer, present, pending, publishes, pendingOf,
 use Rattle.network.specs.Sound.{Sound}
 use Rattle.events.specs.declared.Event.{Event}
 use Rattle.events.specs.declared.Event.the-variants.{Skip, Produce, Forward, Subscribe, Unsubscribe, Leave, Join}
+use Rattle.events.specs.declared.kind.Kind.{Kind}
+use Rattle.events.specs.Kind.{kindOf, codeOf, alike}
 use Rattle.events.specs.Fits.{EventFits}
 use Rattle.floodnet.specs.Produce.{isNew}
 use Rattle.floodnet.specs.Links.{left, linkDown, cleared}
 use Rattle.floodnet.specs.Topics.{subscribedTo, unsubscribedFrom}
 use Rattle.floodnet.specs.Forward.{deliveries}
 use Rattle.floodnet.specs.Refusals.{need, refusalProduce, refusalForward, refusalTopics, refusalLeave, refusalJoin}
-use Rattle.floodnet.specs.Step.{refusal, effect, ifAccepted, after, kindOf, deliveriesOf}
+use Rattle.floodnet.specs.Step.{refusal, effect, ifAccepted, after, deliveriesOf}
 use Rattle.floodnet.specs.ProduceLaws.{produced-sound, new-why}
 use Rattle.floodnet.specs.ForwardLaws.{forwarded-sound}
 use Rattle.floodnet.specs.TopicsLaws.{subscribed-sound, unsubscribed-sound}
@@ -100,8 +102,8 @@ after-sound {n} {b} s r e f = first (refusal n b e) refl
 -- ---- pairs pending: one more for a produce; one less and its deliveries for a forward; else as before
 
 -- 1 for an event of this kind
-abbrev pub isKind : Event → ℕ → ℕ
-isKind e kind = digit (eqb (kindOf e) kind)
+abbrev pub isKind : Event → Kind → ℕ
+isKind e kind = digit (alike (kindOf e) kind)
 
 left-pending : (n : Network) (p : Peer) → pendingOf n p ≡ 0 → left n p .pending ≡ n .pending
 unfolding left linkDown cleared
@@ -121,8 +123,8 @@ unfolding unsubscribedFrom
 unsubscribe-keeps n p topics = refl
 
 pub effect-pairs : {n : Network} {b : Table} → Sound n → Rows b → (e : Event) → EventFits e → refusal n b e ≡ 0
-    → pairs (effect n b e) + isKind e 2 ≡ pairs n + (isKind e 1 + deliveriesOf n b e)
-unfolding refusal effect EventFits kindOf deliveriesOf
+    → pairs (effect n b e) + isKind e Kind.Forward ≡ pairs n + (isKind e Kind.Produce + deliveriesOf n b e)
+unfolding refusal effect EventFits kindOf codeOf alike deliveriesOf
 effect-pairs {n} {b} s r Skip f h = refl
 effect-pairs {n} {b} s r (Produce p m) f h =
     let x = produce-met n b p m h in

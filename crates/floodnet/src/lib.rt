@@ -10,6 +10,7 @@ ghost use Rattle.events.specs.Fits.{EventFits};
 ghost use Rattle.floodnet.specs.Step.{after, turnedOf};
 ghost use Rattle.floodnet.specs.CodeForward.{table};
 use events::Event;
+use events::kind::Kind;
 
 mod arrays; // arrays.rt: loops over the words of peers
 mod rows; // rows.rt: loops over the rows of `known`
@@ -18,11 +19,11 @@ mod links; // links.rt: what subscribe, unsubscribe, leave and join do
 mod refusals; // refusals.rt: what the events ask
 pub mod turns; // turns.rt: an event of each kind, asked and done; the single forward calls its own
 
-// What one event comes to: 0 or the number of the refusal; 1 for an accepted produce, 2 for an accepted forward, else 0; and
-// the deliveries of an accepted forward.
+// What one event comes to: 0 or the number of the refusal; the kind of the event, refused or not; and the deliveries of an
+// accepted forward, else 0.
 pub struct Turned {
     pub number: u8,
-    pub kind: u8,
+    pub kind: Kind,
     pub deliveries: u32,
 }
 
@@ -45,7 +46,7 @@ pub fn step(
     ensures { λ r. ⌜ r .deliveries ≤ 32 ⌝ }
 {
     match e {
-        Event::Skip => turns::done(0, 0),
+        Event::Skip => turns::done(Kind::Skip, 0),
         Event::Produce(p, m) => turns::produce(
             *present,
             pubs,

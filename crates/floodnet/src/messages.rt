@@ -39,7 +39,7 @@ pub fn forward(
     let b = m.0 as u32;
     pending[i] = sets::without64(pending[i], b);
     seen[i] = sets::with64(seen[i], b);
-    let k = i * 32 + topics[m.0 as usize] as usize;
+    let k = network::spot(p, network::topic_of(topics, m));
     let near = known[k];
     let held = arrays::holders(pending, seen, near, m);
     let r = sets::minus32(near, held);

@@ -31,7 +31,8 @@ pub(crate) fn of_produce(
     if origins[m.0 as usize] != p.0 {
         return 10;
     }
-    if !sets::has32(pubs[p.0 as usize], topics[m.0 as usize] as u32) {
+    let t = network::topic_of(topics, m);
+    if !sets::has32(pubs[p.0 as usize], t.0 as u32) {
         return 11;
     }
     if arrays::holders(pending, seen, present, m) != 0 {

@@ -1,4 +1,4 @@
-// Loops over rows of `known`, the lent array of 32 rows of 32 words: the word of topic t at peer q stands at q * 32 + t.
+// Loops over rows of `known`, the lent array of 32 rows of 32 words: the word of topic t at peer q stands at q * 32 + t (`network::spot`).
 // The first four change one row, the others the rows of the members of a set. The loops' turns are laws of
 // specs/CodeWhen.antt, specs/CodeArrays.antt and specs/CodeRows.antt.
 ghost use mathlib.Core.Path.{_≡_};
@@ -11,17 +11,17 @@ ghost use Rattle.floodnet.specs.Topics.{withoutIf, noted, struck};
 ghost use Rattle.floodnet.specs.Links.{minusIf, keepIf};
 ghost use Rattle.floodnet.specs.CodeWalks.{learnt};
 use network::Peer;
+use network::Topic;
 
 // `row` knows `who` for each of these topics.
 pub(crate) fn row_note(known: &mut [u32; 1024], row: Peer, topics: u32, who: Peer)
     requires { ⌜ (row .0 < 32) × (who .0 < 32) ⌝ }
     ensures { λ z. ⌜ now (known .exit) ≡ noted (only (row .0)) topics who (now (known .entry)) ⌝ }
 {
-    let r = row.0 as usize;
     let i = who.0 as u32;
     let mut left = topics;
     while left != 0 {
-        let k = r * 32 + sets::lowest32(left) as usize;
+        let k = network::spot(row, Topic(sets::lowest32(left) as u8));
         known[k] = sets::with32(known[k], i);
         left = sets::rest32(left);
     }
@@ -32,11 +32,10 @@ pub(crate) fn row_strike(known: &mut [u32; 1024], row: Peer, topics: u32, who: P
     requires { ⌜ (row .0 < 32) × (who .0 < 32) ⌝ }
     ensures { λ z. ⌜ now (known .exit) ≡ struck (only (row .0)) topics who (now (known .entry)) ⌝ }
 {
-    let r = row.0 as usize;
     let i = who.0 as u32;
     let mut left = topics;
     while left != 0 {
-        let k = r * 32 + sets::lowest32(left) as usize;
+        let k = network::spot(row, Topic(sets::lowest32(left) as u8));
         known[k] = sets::without32(known[k], i);
         left = sets::rest32(left);
     }
@@ -47,9 +46,8 @@ pub(crate) fn row_minus(known: &mut [u32; 1024], row: Peer, s: u32)
     requires { ⌜ row .0 < 32 ⌝ }
     ensures { λ z. ⌜ now (known .exit) ≡ edit (λ i w. minusIf (eqb (i / 32) (row .0)) s w) (now (known .entry)) ⌝ }
 {
-    let r = row.0 as usize;
     for t in 0..32 {
-        let k = r * 32 + t;
+        let k = network::spot(row, Topic(t));
         known[k] = sets::minus32(known[k], s);
     }
 }
@@ -59,9 +57,8 @@ pub(crate) fn row_clear(known: &mut [u32; 1024], row: Peer)
     requires { ⌜ row .0 < 32 ⌝ }
     ensures { λ z. ⌜ now (known .exit) ≡ edit (λ i w. keepIf (not (eqb (i / 32) (row .0))) w) (now (known .entry)) ⌝ }
 {
-    let r = row.0 as usize;
     for t in 0..32 {
-        known[r * 32 + t] = 0;
+        known[network::spot(row, Topic(t))] = 0;
     }
 }
 

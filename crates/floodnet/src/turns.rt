@@ -17,11 +17,12 @@ use super::messages;
 use super::refusals;
 use events::Event;
 use events::Joining;
+use events::kind::Kind;
 use network::Message;
 use network::Peer;
 
 // The answer to an accepted event.
-pub(crate) fn done(kind: u8, count: u32) -> Turned
+pub(crate) fn done(kind: Kind, count: u32) -> Turned
     ensures { λ r. ⌜ r ≡ turned 0 kind count ⌝ }
 {
     Turned {
@@ -31,14 +32,14 @@ pub(crate) fn done(kind: u8, count: u32) -> Turned
     }
 }
 
-// The answer to a refused event: it counts for nothing.
-fn refused(number: u8) -> Turned
+// The answer to a refused event: it delivers nothing.
+fn refused(number: u8, kind: Kind) -> Turned
     requires { ⌜ 0 < number ⌝ }
-    ensures { λ r. ⌜ ((kind count : ℕ) → r ≡ turned number kind count) ⌝ }
+    ensures { λ r. ⌜ ((count : ℕ) → r ≡ turned number kind count) ⌝ }
 {
     Turned {
         number,
-        kind: 0,
+        kind,
         deliveries: 0,
     }
 }
@@ -58,10 +59,10 @@ pub(crate) fn produce(
 {
     let k = refusals::of_produce(present, pubs, pending, seen, topics, origins, p, m);
     if k != 0 {
-        return refused(k);
+        return refused(k, Kind::Produce);
     }
     messages::produce(pending, p, m);
-    done(1, 0)
+    done(Kind::Produce, 0)
 }
 
 pub fn forward(
@@ -78,11 +79,11 @@ pub fn forward(
 {
     let k = refusals::of_forward(present, pending, p, m);
     if k != 0 {
-        return refused(k);
+        return refused(k, Kind::Forward);
     }
     let receivers = messages::forward(pending, seen, known, topics, p, m);
     let count = sets::size32(receivers);
-    done(2, count)
+    done(Kind::Forward, count)
 }
 
 pub(crate) fn subscribe(
@@ -98,10 +99,10 @@ pub(crate) fn subscribe(
 {
     let k = refusals::of_topics(present, p);
     if k != 0 {
-        return refused(k);
+        return refused(k, Kind::Subscribe);
     }
     links::subscribe(subs, neighbours, known, p, topics);
-    done(0, 0)
+    done(Kind::Subscribe, 0)
 }
 
 pub(crate) fn unsubscribe(
@@ -117,10 +118,10 @@ pub(crate) fn unsubscribe(
 {
     let k = refusals::of_topics(present, p);
     if k != 0 {
-        return refused(k);
+        return refused(k, Kind::Unsubscribe);
     }
     links::unsubscribe(subs, neighbours, known, p, topics);
-    done(0, 0)
+    done(Kind::Unsubscribe, 0)
 }
 
 pub(crate) fn leave(
@@ -138,10 +139,10 @@ pub(crate) fn leave(
 {
     let k = refusals::of_leave(*present, pending, p);
     if k != 0 {
-        return refused(k);
+        return refused(k, Kind::Leave);
     }
     links::leave(present, pubs, subs, neighbours, pending, seen, known, p);
-    done(0, 0)
+    done(Kind::Leave, 0)
 }
 
 pub(crate) fn join(
@@ -161,7 +162,7 @@ pub(crate) fn join(
     let who = j.neighbours;
     let k = refusals::of_join(*present, p, who);
     if k != 0 {
-        return refused(k);
+        return refused(k, Kind::Join);
     }
     links::join(
         present,
@@ -176,5 +177,5 @@ pub(crate) fn join(
         j.pubs,
         who,
     );
-    done(0, 0)
+    done(Kind::Join, 0)
 }

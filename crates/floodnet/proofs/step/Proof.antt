@@ -3,7 +3,8 @@ use borrow.Author.Needs.{needs}
 use mathlib.Core.Path.{refl}
 use Rattle.network.specs.Network.{withPubs, withSubs, withNeighbours, withPending, withSeen, withKnown}
 use Rattle.events.specs.Fits.{EventFits}
-use Rattle.floodnet.specs.Step.{refusal, effect, kindOf, deliveriesOf}
+use Rattle.events.specs.Kind.{kindOf}
+use Rattle.floodnet.specs.Step.{refusal, effect, deliveriesOf}
 use Rattle.floodnet.specs.CodeTurns.{fits-as, stepped-as, stepped-done}
 use Rattle.floodnet.proofs.step.Statement.{statement}
 use Rattle.floodnet.proofs.step.Tie as tie

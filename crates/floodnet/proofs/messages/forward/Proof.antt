@@ -1,5 +1,8 @@
 -- `floodnet::messages::forward` meets its contract. Assumes nothing.
 use borrow.Author.Needs.{needs}
+use mathlib.Core.Path.{ap}
+use native.Mathlib.Omega.{arith}
+use Rattle.network.specs.declared.Topic.{Topic}
 use Rattle.floodnet.specs.CodeForward.{receivers-law, forwarded-law}
 use Rattle.floodnet.proofs.messages.forward.Statement.{statement}
 use Rattle.floodnet.proofs.messages.forward.Tie as tie
@@ -40,26 +43,17 @@ mul-seen c = search needs
 element-write-seen : tie.Need-element-write-seen
 element-write-seen c = search needs
 
-mul-k : tie.Need-mul-k
-mul-k c = search needs
+topic-of-requires : tie.Need-topic-of-requires
+topic-of-requires c κs = search needs
 
-cast-k : tie.Need-cast-k
-cast-k c = search needs
-
-element-copy-out-k : tie.Need-element-copy-out-k
-element-copy-out-k c = search needs
-
-cast-k-2 : tie.Need-cast-k-2
-cast-k-2 c = search needs
-
-add-k : tie.Need-add-k
-add-k c = search needs
+spot-requires : tie.Need-spot-requires
+spot-requires c κs = (search needs, omega (arith, ap (λ (t : Topic). t .0) (c .topic-of .ensures)))
 
 mul-near : tie.Need-mul-near
 mul-near c = search needs
 
 element-copy-out-near : tie.Need-element-copy-out-near
-element-copy-out-near c = search needs
+element-copy-out-near c = omega (arith, ap (λ (t : Topic). t .0) (c .before .topic-of .ensures))
 
 holders-requires : tie.Need-holders-requires
 holders-requires c κs = search needs
@@ -72,11 +66,15 @@ give-requires c κs = search needs
 
 returns : tie.Need-returns
 returns c =
-    let v = c .before .before .before .before .before .before .before .before .before .before .before .without64 .ensures in
-    let w = c .before .before .before .before .before .before .before .before .before .with64 .ensures in
-    let h = c .before .before .before .holders .ensures in
-    let r = c .before .before .minus32 .ensures in
-    (receivers-law _ _ _ _ _ _ _ _ _ _ v w h r, forwarded-law _ _ _ _ _ _ _ _ _ _ v w h r _ (c .give .ensures))
+    let r = c .before .before in
+    let h = r .before in
+    let k = h .before .before .before .before in
+    let t = k .before in
+    let w = t .before in
+    let v = w .before .before in (
+      receivers-law _ _ _ _ _ _ _ _ _ _ _ _ (t .topic-of .ensures) (k .spot .ensures) (v .without64 .ensures) (w .with64 .ensures) (h .holders .ensures) (r .minus32 .ensures),
+      forwarded-law _ _ _ _ _ _ _ _ _ _ _ _ (t .topic-of .ensures) (k .spot .ensures) (v .without64 .ensures) (w .with64 .ensures) (h .holders .ensures) (r .minus32 .ensures) _ (c .give .ensures),
+    )
 
 pub forward-spec : {M : Type 1} → statement M
 forward-spec =
@@ -94,11 +92,8 @@ forward-spec =
     with64-requires
     mul-seen
     element-write-seen
-    mul-k
-    cast-k
-    element-copy-out-k
-    cast-k-2
-    add-k
+    topic-of-requires
+    spot-requires
     mul-near
     element-copy-out-near
     holders-requires

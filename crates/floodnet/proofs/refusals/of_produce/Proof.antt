@@ -1,11 +1,13 @@
 -- `floodnet::refusals::of_produce` meets its contract. Assumes nothing.
 use borrow.Author.Needs.{needs}
-use mathlib.Core.Path.{refl}
+use mathlib.Core.Path.{refl, ap}
+use native.Mathlib.Omega.{arith}
 use borrow.Author.Tests.{eq-eqb, ne-eqb}
+use Rattle.network.specs.declared.Topic.{Topic}
 use Rattle.network.specs.Network.{withPresent, withPubs, withPending, withSeen}
 use Rattle.floodnet.specs.Produce.{isNew}
 use Rattle.floodnet.specs.Refusals.{refusalProduce}
-use Rattle.floodnet.specs.CodeRefusals.{need-fails, need-holds, test-fails, test-holds, some-fails, none-holds, holders-is}
+use Rattle.floodnet.specs.CodeRefusals.{need-fails, need-holds, test-fails, test-holds, test-topic, some-fails, none-holds, holders-is}
 use Rattle.floodnet.proofs.refusals.of_produce.Statement.{statement}
 use Rattle.floodnet.proofs.refusals.of_produce.Tie as tie
 
@@ -29,6 +31,9 @@ returns-2 : tie.Need-returns-2
 unfolding refusalProduce isNew
 returns-2 c = λ n. need-holds _ _ _ (test-holds (c .before .before .before .before .before .has32 .ensures) (c .before .before .before .before .if1 .left)) (need-fails _ _ _ (ne-eqb _ _ (c .if2 .taken)))
 
+topic-of-requires : tie.Need-topic-of-requires
+topic-of-requires c κs = search needs
+
 cast-has32-2 : tie.Need-cast-has32-2
 cast-has32-2 c = search needs
 
@@ -41,29 +46,42 @@ element-copy-out-has32 c = search needs
 cast-has32-3 : tie.Need-cast-has32-3
 cast-has32-3 c = search needs
 
-element-copy-out-has32-2 : tie.Need-element-copy-out-has32-2
-element-copy-out-has32-2 c = search needs
-
-cast-has32-4 : tie.Need-cast-has32-4
-cast-has32-4 c = search needs
-
 has32-requires-2 : tie.Need-has32-requires-2
-has32-requires-2 c κs = search needs
+has32-requires-2 c κs = omega (arith, ap (λ (x : Topic). x .0) (c .before .before .before .topic-of .ensures))
 
 returns-3 : tie.Need-returns-3
 unfolding refusalProduce isNew
-returns-3 c = λ n. need-holds _ _ _ (test-holds (c .before .before .before .before .before .before .before .before .before .before .before .has32 .ensures) (c .before .before .before .before .before .before .before .before .before .before .if1 .left)) (need-holds _ _ _ (eq-eqb _ _ (c .before .before .before .before .before .before .if2 .left)) (need-fails _ _ _ (test-fails (c .before .has322 .ensures) (c .if3 .taken))))
+returns-3 c =
+    let h = c .before in
+    let t = h .before .before .before .before in
+    let e2 = t .before in
+    let e1 = e2 .before .before .before .before in
+    λ n. need-holds _ _ _ (test-holds (e1 .before .has32 .ensures) (e1 .if1 .left)) (need-holds _ _ _ (eq-eqb _ _ (e2 .if2 .left)) (need-fails _ _ _ (test-fails (test-topic _ (h .has322 .ensures) (t .topic-of .ensures)) (c .if3 .taken))))
 
 holders-requires : tie.Need-holders-requires
 holders-requires c κs = search needs
 
 returns-4 : tie.Need-returns-4
 unfolding refusalProduce isNew
-returns-4 c = λ n. need-holds _ _ _ (test-holds (c .before .before .before .before .before .before .before .before .before .before .before .before .before .has32 .ensures) (c .before .before .before .before .before .before .before .before .before .before .before .before .if1 .left)) (need-holds _ _ _ (eq-eqb _ _ (c .before .before .before .before .before .before .before .before .if2 .left)) (need-holds _ _ _ (test-holds (c .before .before .before .has322 .ensures) (c .before .before .if3 .left)) (need-fails _ _ _ (some-fails (holders-is (withPresent (withPubs (withPending (withSeen n _) _) _) _) _ _ (c .before .holders .ensures)) (c .if4 .taken)))))
+returns-4 c =
+    let e3 = c .before .before in
+    let h = e3 .before in
+    let t = h .before .before .before .before in
+    let e2 = t .before in
+    let e1 = e2 .before .before .before .before in
+    λ n. need-holds _ _ _ (test-holds (e1 .before .has32 .ensures) (e1 .if1 .left)) (need-holds _ _ _ (eq-eqb _ _ (e2 .if2 .left))
+    (need-holds _ _ _ (test-holds (test-topic _ (h .has322 .ensures) (t .topic-of .ensures)) (e3 .if3 .left)) (need-fails _ _ _ (some-fails (holders-is (withPresent (withPubs (withPending (withSeen n _) _) _) _) _ _ (c .before .holders .ensures)) (c .if4 .taken)))))
 
 returns-5 : tie.Need-returns-5
 unfolding refusalProduce isNew
-returns-5 c = λ n. need-holds _ _ _ (test-holds (c .before .before .before .before .before .before .before .before .before .before .before .before .before .has32 .ensures) (c .before .before .before .before .before .before .before .before .before .before .before .before .if1 .left)) (need-holds _ _ _ (eq-eqb _ _ (c .before .before .before .before .before .before .before .before .if2 .left)) (need-holds _ _ _ (test-holds (c .before .before .before .has322 .ensures) (c .before .before .if3 .left)) (need-holds _ _ _ (none-holds (holders-is (withPresent (withPubs (withPending (withSeen n _) _) _) _) _ _ (c .before .holders .ensures)) (c .if4 .left)) (refl))))
+returns-5 c =
+    let e3 = c .before .before in
+    let h = e3 .before in
+    let t = h .before .before .before .before in
+    let e2 = t .before in
+    let e1 = e2 .before .before .before .before in
+    λ n. need-holds _ _ _ (test-holds (e1 .before .has32 .ensures) (e1 .if1 .left)) (need-holds _ _ _ (eq-eqb _ _ (e2 .if2 .left))
+    (need-holds _ _ _ (test-holds (test-topic _ (h .has322 .ensures) (t .topic-of .ensures)) (e3 .if3 .left)) (need-holds _ _ _ (none-holds (holders-is (withPresent (withPubs (withPending (withSeen n _) _) _) _) _ _ (c .before .holders .ensures)) (c .if4 .left)) refl)))
 
 pub of-produce-spec : {M : Type 1} → statement M
 of-produce-spec =
@@ -75,12 +93,11 @@ of-produce-spec =
     cast-if2
     element-copy-out-if2
     returns-2
+    topic-of-requires
     cast-has32-2
     mul-has32
     element-copy-out-has32
     cast-has32-3
-    element-copy-out-has32-2
-    cast-has32-4
     has32-requires-2
     returns-3
     holders-requires

@@ -10,25 +10,19 @@ use Rattle.floodnet.proofs.rows.row_clear.Statement.{statement}
 use Rattle.floodnet.proofs.rows.row_clear.Tie as tie
 
 abbrev Inv-loop : tie.InvT-loop
-Inv-loop known₀ r t₀ known t = (t ≤ 32) × (known ≡ edit (picks (front r t) blanks) known₀)
+Inv-loop known₀ row t₀ known t = (t ≤ 32) × (known ≡ edit (picks (front (row .0) t) blanks) known₀)
 
 abbrev μ-loop : tie.MeasureT-loop
-μ-loop known₀ r t₀ known t = 32 - t
-
-cast-r : tie.Need-cast-r Inv-loop μ-loop
-cast-r c = search needs
+μ-loop known₀ row t₀ known t = 32 - t
 
 loop-holds : tie.Need-loop-holds Inv-loop μ-loop
 loop-holds c = (search needs, row-none _ _ _)
 
+spot-requires : tie.Need-spot-requires Inv-loop μ-loop
+spot-requires c κs = search needs
+
 mul-known : tie.Need-mul-known Inv-loop μ-loop
 mul-known c = search needs
-
-add-known : tie.Need-add-known Inv-loop μ-loop
-add-known c = search needs
-
-mul-known-2 : tie.Need-mul-known-2 Inv-loop μ-loop
-mul-known-2 c = search needs
 
 element-write-known : tie.Need-element-write-known Inv-loop μ-loop
 element-write-known c = search needs
@@ -40,7 +34,7 @@ loop-less : tie.Need-loop-less Inv-loop μ-loop
 loop-less c = search needs
 
 loop-again : tie.Need-loop-again Inv-loop μ-loop
-loop-again c = (search needs, row-clear-more _ _ _ (search needs) (c .before .loop .inv .1))
+loop-again c = (search needs, row-clear-more _ _ _ (search needs) (c .before .before .loop .inv .1) (c .spot .ensures))
 
 returns : tie.Need-returns Inv-loop μ-loop
 returns c = row-clear-all _ _ _ (c .before .loop .inv .1) (omega arith)
@@ -51,11 +45,9 @@ row-clear-spec =
     (tie.spec
     Inv-loop
     μ-loop
-    cast-r
     loop-holds
+    spot-requires
     mul-known
-    add-known
-    mul-known-2
     element-write-known
     add-t
     loop-less

@@ -10,22 +10,16 @@ use Rattle.floodnet.proofs.rows.row_minus.Statement.{statement}
 use Rattle.floodnet.proofs.rows.row_minus.Tie as tie
 
 abbrev Inv-loop : tie.InvT-loop
-Inv-loop known₀ s r t₀ known t = (t ≤ 32) × (known ≡ edit (picks (front r t) (strikes s)) known₀)
+Inv-loop known₀ row s t₀ known t = (t ≤ 32) × (known ≡ edit (picks (front (row .0) t) (strikes s)) known₀)
 
 abbrev μ-loop : tie.MeasureT-loop
-μ-loop known₀ s r t₀ known t = 32 - t
-
-cast-r : tie.Need-cast-r Inv-loop μ-loop
-cast-r c = search needs
+μ-loop known₀ row s t₀ known t = 32 - t
 
 loop-holds : tie.Need-loop-holds Inv-loop μ-loop
 loop-holds c = (search needs, row-none _ _ _)
 
-mul-k : tie.Need-mul-k Inv-loop μ-loop
-mul-k c = search needs
-
-add-k : tie.Need-add-k Inv-loop μ-loop
-add-k c = search needs
+spot-requires : tie.Need-spot-requires Inv-loop μ-loop
+spot-requires c κs = search needs
 
 mul-minus32 : tie.Need-mul-minus32 Inv-loop μ-loop
 mul-minus32 c = search needs
@@ -49,7 +43,9 @@ loop-less : tie.Need-loop-less Inv-loop μ-loop
 loop-less c = search needs
 
 loop-again : tie.Need-loop-again Inv-loop μ-loop
-loop-again c = (search needs, row-minus-more _ _ _ _ (search needs) (c .before .before .before .loop .inv .1) (c .minus32 .ensures))
+loop-again c =
+    let k = c .before .before in
+    (search needs, row-minus-more _ _ _ _ (search needs) (k .before .before .loop .inv .1) (k .spot .ensures) (c .minus32 .ensures))
 
 returns : tie.Need-returns Inv-loop μ-loop
 returns c = row-minus-all _ _ _ _ (c .before .loop .inv .1) (omega arith)
@@ -60,10 +56,8 @@ row-minus-spec =
     (tie.spec
     Inv-loop
     μ-loop
-    cast-r
     loop-holds
-    mul-k
-    add-k
+    spot-requires
     mul-minus32
     element-copy-out-minus32
     minus32-requires

@@ -9,13 +9,10 @@ use Rattle.floodnet.proofs.rows.row_note.Statement.{statement}
 use Rattle.floodnet.proofs.rows.row_note.Tie as tie
 
 abbrev Inv-loop : tie.InvT-loop
-Inv-loop known₀ topics r i left₀ known left = Picking topics left (inside (only r)) (puts i) known₀ known
+Inv-loop known₀ row topics i left₀ known left = Picking topics left (inside (only (row .0))) (puts i) known₀ known
 
 abbrev μ-loop : tie.MeasureT-loop
-μ-loop known₀ topics r i left₀ known left = left
-
-cast-r : tie.Need-cast-r Inv-loop μ-loop
-cast-r c = search needs
+μ-loop known₀ row topics i left₀ known left = left
 
 cast-i : tie.Need-cast-i Inv-loop μ-loop
 cast-i c = search needs
@@ -23,17 +20,14 @@ cast-i c = search needs
 loop-holds : tie.Need-loop-holds Inv-loop μ-loop
 loop-holds c = picking-none _ _ _ _ (search needs) (inside-no-topic _)
 
-mul-k : tie.Need-mul-k Inv-loop μ-loop
-mul-k c = search needs
-
 lowest32-requires : tie.Need-lowest32-requires Inv-loop μ-loop
 lowest32-requires c κs = search needs
 
-cast-k : tie.Need-cast-k Inv-loop μ-loop
-cast-k c = search needs
+cast-t10 : tie.Need-cast-t10 Inv-loop μ-loop
+cast-t10 c = search needs
 
-add-k : tie.Need-add-k Inv-loop μ-loop
-add-k c = search needs
+spot-requires : tie.Need-spot-requires Inv-loop μ-loop
+spot-requires c κs = search needs
 
 mul-with32 : tie.Need-mul-with32 Inv-loop μ-loop
 mul-with32 c = search needs
@@ -58,7 +52,8 @@ loop-less c = search needs
 
 loop-again : tie.Need-loop-again Inv-loop μ-loop
 loop-again c =
-    noting _ _ (c .before .before .before .before .before .loop .inv) (search needs) (c .before .before .before .lowest32 .ensures .0) (c .rest32 .ensures .0) (c .before .with32 .ensures)
+    let k = c .before .before .before in
+    noting _ _ (k .before .before .before .loop .inv) (search needs) (k .before .lowest32 .ensures .0) (c .rest32 .ensures .0) (k .spot .ensures) (c .before .with32 .ensures)
 
 returns : tie.Need-returns Inv-loop μ-loop
 returns c = along-done (c .before .loop .inv) (c .loop-test .left) ∙ inside-noted _ _ _ _
@@ -69,13 +64,11 @@ row-note-spec =
     (tie.spec
     Inv-loop
     μ-loop
-    cast-r
     cast-i
     loop-holds
-    mul-k
     lowest32-requires
-    cast-k
-    add-k
+    cast-t10
+    spot-requires
     mul-with32
     element-copy-out-with32
     with32-requires

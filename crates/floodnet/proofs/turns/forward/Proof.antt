@@ -6,7 +6,8 @@ use Rattle.sets.specs.Set.{size}
 use Rattle.floodnet.specs.Forward.{deliveries}
 use Rattle.network.specs.Network.{withPresent}
 use Rattle.floodnet.specs.CodeForward.{withMessages}
-use Rattle.floodnet.specs.Step.{refusal, effect, kindOf, deliveriesOf}
+use Rattle.events.specs.Kind.{kindOf}
+use Rattle.floodnet.specs.Step.{refusal, effect, deliveriesOf}
 use Rattle.floodnet.specs.CodeTurns.{stepped-refused, stepped-done}
 use Rattle.floodnet.proofs.turns.forward.Statement.{statement}
 use Rattle.floodnet.proofs.turns.forward.Tie as tie
@@ -18,7 +19,7 @@ refused-requires : tie.Need-refused-requires
 refused-requires c κs = search needs
 
 returns : tie.Need-returns
-unfolding refusal
+unfolding refusal kindOf
 returns c = λ n os. stepped-refused _ (c .before .before .of-forward .ensures (withMessages n [] _ _)) (c .before .if1 .taken) (c .refused .ensures)
 
 forward-requires : tie.Need-forward-requires

@@ -2,7 +2,8 @@
 use borrow.Author.Needs.{needs}
 use mathlib.Core.Path.{refl}
 use Rattle.network.specs.Network.{withAll}
-use Rattle.floodnet.specs.Step.{refusal, effect, kindOf, deliveriesOf}
+use Rattle.events.specs.Kind.{kindOf}
+use Rattle.floodnet.specs.Step.{refusal, effect, deliveriesOf}
 use Rattle.floodnet.specs.CodeTurns.{stepped-refused, stepped-done}
 use Rattle.floodnet.proofs.turns.join.Statement.{statement}
 use Rattle.floodnet.proofs.turns.join.Tie as tie
@@ -14,7 +15,7 @@ refused-requires : tie.Need-refused-requires
 refused-requires c κs = search needs
 
 returns : tie.Need-returns
-unfolding refusal
+unfolding refusal kindOf
 returns c = λ n b. stepped-refused _ (c .before .before .of-join .ensures (withAll n 0 _ _ _ _ _ _)) (c .before .if1 .taken) (c .refused .ensures)
 
 join-requires : tie.Need-join-requires

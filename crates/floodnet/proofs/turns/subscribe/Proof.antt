@@ -3,7 +3,8 @@ use borrow.Author.Needs.{needs}
 use mathlib.Core.Path.{refl}
 use Rattle.network.specs.Network.{withPresent}
 use Rattle.floodnet.specs.CodeLinks.{withLinks}
-use Rattle.floodnet.specs.Step.{refusal, effect, kindOf, deliveriesOf}
+use Rattle.events.specs.Kind.{kindOf}
+use Rattle.floodnet.specs.Step.{refusal, effect, deliveriesOf}
 use Rattle.floodnet.specs.CodeTurns.{stepped-refused, stepped-done}
 use Rattle.floodnet.proofs.turns.subscribe.Statement.{statement}
 use Rattle.floodnet.proofs.turns.subscribe.Tie as tie
@@ -15,7 +16,7 @@ refused-requires : tie.Need-refused-requires
 refused-requires c κs = search needs
 
 returns : tie.Need-returns
-unfolding refusal
+unfolding refusal kindOf
 returns c = λ n b. stepped-refused _ (c .before .before .of-topics .ensures (withLinks n _ _ _)) (c .before .if1 .taken) (c .refused .ensures)
 
 subscribe-requires : tie.Need-subscribe-requires

@@ -14,7 +14,7 @@ use Rattle.sets.specs.Counts.{count-ext, count-first}
 use Rattle.network.specs.declared.Network.{Network}
 use Rattle.network.specs.declared.Table.{Table}
 use Rattle.events.specs.declared.Read.{Read}
-use Rattle.events.specs.declared.Read.the-variants.{Taken, End, Refused}
+use Rattle.events.specs.declared.Read.the-variants.{Taken, End, Unknown, Unfit}
 use Rattle.events.specs.Event.{readAt}
 use Rattle.floodnet.specs.Step.{refusal, kindOf, deliveriesOf, turned, turnedOf}
 use Rattle.floodnet.specs.declared.Turned.{Turned}
@@ -26,7 +26,8 @@ use Rattle.engine.specs.RunLaws.{outcomeAt, tallyAfter, run-ind}
 unfoldable pub kindIn : Read → ℕ
 kindIn (Taken e) = kindOf e
 kindIn End = 0
-kindIn (Refused k) = 0
+kindIn Unknown = 0
+kindIn Unfit = 0
 
 abbrev pub kindAt : List ℕ → ℕ → ℕ
 kindAt ev i = kindIn (readAt ev i)
@@ -44,7 +45,8 @@ accepted-kind b n (Taken e) h = first (refusal n b e) h
     first zero z = refl
     first (suc k) z = absurd (omega arith)
 accepted-kind b n End h = refl
-accepted-kind b n (Refused k) h = refl
+accepted-kind b n Unknown h = refl
+accepted-kind b n Unfit h = refl
 
 -- the counts of a tally after an event of a kind
 pub tallied-produced : (t : Tally) (kind d : ℕ) → talliedOf t kind d .produced ≡ t .produced + digit (eqb kind 1)

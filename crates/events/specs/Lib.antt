@@ -1,5 +1,6 @@
 pub mod Event
 pub mod Writing
+pub mod ReadingLaws
 pub mod Fits
 pub mod Decoded
 pub mod Bytes

@@ -18,7 +18,7 @@ use Rattle.network.specs.Network.{peer, neighboursOf}
 use Rattle.network.specs.State.{blankNet}
 use Rattle.network.specs.Rows.{blankTable}
 use Rattle.events.specs.declared.Fields.{Fields}
-use Rattle.events.specs.Event.{readAt, pickRead, decodeOf, fieldsAt, orSeven, skipOk, pairOk, topicsOk, leaveOk, joinOk, noMore, noSets, noMessage}
+use Rattle.events.specs.Event.{readingOf, readOf, readingAt, readAt, decodeOf, fieldsAt, orSeven, skipOk, pairOk, topicsOk, leaveOk, joinOk, noMore, noSets, noMessage}
 use Rattle.events.specs.Writing.{fieldsMk, putFields, putHead}
 use Rattle.floodnet.specs.Produce.{holders, isNew, produced}
 use Rattle.floodnet.specs.Forward.{moved, receivers, given, forwarded, deliveries}
@@ -167,27 +167,27 @@ table = start ++ (refused ++ (leaving ++ (joining ++ (draining ++ again))))
 
 -- Each part is worked out by itself.
 start-hold : every start ≡ true
-unfolding answer-is images-are drained-is join produce forward leave H bytes ran same alike holds every A7 runAll runFrom turnOf talliedOf refusal effect ifAccepted after kindOf deliveriesOf turned turnedOf need refusalProduce refusalForward refusalLeave refusalJoin unionIf minusIf keepIf linkUp linkDown cleared placed left joined withoutIf moved receivers given forwarded deliveries holders isNew produced putFields putHead readAt pickRead decodeOf fieldsAt orSeven skipOk pairOk topicsOk leaveOk joinOk noMore noSets noMessage blankTable blankNet le putLe edit has union meet minus only withIf setOf sift size ones all view fwd together underway without image drainOf quietOf run row todo round drain start
+unfolding answer-is images-are drained-is join produce forward leave H bytes ran same alike holds every A7 runAll runFrom turnOf talliedOf refusal effect ifAccepted after kindOf deliveriesOf turned turnedOf need refusalProduce refusalForward refusalLeave refusalJoin unionIf minusIf keepIf linkUp linkDown cleared placed left joined withoutIf moved receivers given forwarded deliveries holders isNew produced putFields putHead readingOf readOf readingAt readAt decodeOf fieldsAt orSeven skipOk pairOk topicsOk leaveOk joinOk noMore noSets noMessage blankTable blankNet le putLe edit has union meet minus only withIf setOf sift size ones all view fwd together underway without image drainOf quietOf run row todo round drain start
 start-hold = refl
 
 refused-hold : every refused ≡ true
-unfolding answer-is images-are drained-is join produce forward leave H bytes ran same alike holds every A7 runAll runFrom turnOf talliedOf refusal effect ifAccepted after kindOf deliveriesOf turned turnedOf need refusalProduce refusalForward refusalLeave refusalJoin unionIf minusIf keepIf linkUp linkDown cleared placed left joined withoutIf moved receivers given forwarded deliveries holders isNew produced putFields putHead readAt pickRead decodeOf fieldsAt orSeven skipOk pairOk topicsOk leaveOk joinOk noMore noSets noMessage blankTable blankNet le putLe edit has union meet minus only withIf setOf sift size ones all view fwd together underway without image drainOf quietOf run row todo round drain refused
+unfolding answer-is images-are drained-is join produce forward leave H bytes ran same alike holds every A7 runAll runFrom turnOf talliedOf refusal effect ifAccepted after kindOf deliveriesOf turned turnedOf need refusalProduce refusalForward refusalLeave refusalJoin unionIf minusIf keepIf linkUp linkDown cleared placed left joined withoutIf moved receivers given forwarded deliveries holders isNew produced putFields putHead readingOf readOf readingAt readAt decodeOf fieldsAt orSeven skipOk pairOk topicsOk leaveOk joinOk noMore noSets noMessage blankTable blankNet le putLe edit has union meet minus only withIf setOf sift size ones all view fwd together underway without image drainOf quietOf run row todo round drain refused
 refused-hold = refl
 
 leaving-hold : every leaving ≡ true
-unfolding answer-is images-are drained-is join produce forward leave H bytes ran same alike holds every A7 runAll runFrom turnOf talliedOf refusal effect ifAccepted after kindOf deliveriesOf turned turnedOf need refusalProduce refusalForward refusalLeave refusalJoin unionIf minusIf keepIf linkUp linkDown cleared placed left joined withoutIf moved receivers given forwarded deliveries holders isNew produced putFields putHead readAt pickRead decodeOf fieldsAt orSeven skipOk pairOk topicsOk leaveOk joinOk noMore noSets noMessage blankTable blankNet le putLe edit has union meet minus only withIf setOf sift size ones all view fwd together underway without image drainOf quietOf run row todo round drain leaving
+unfolding answer-is images-are drained-is join produce forward leave H bytes ran same alike holds every A7 runAll runFrom turnOf talliedOf refusal effect ifAccepted after kindOf deliveriesOf turned turnedOf need refusalProduce refusalForward refusalLeave refusalJoin unionIf minusIf keepIf linkUp linkDown cleared placed left joined withoutIf moved receivers given forwarded deliveries holders isNew produced putFields putHead readingOf readOf readingAt readAt decodeOf fieldsAt orSeven skipOk pairOk topicsOk leaveOk joinOk noMore noSets noMessage blankTable blankNet le putLe edit has union meet minus only withIf setOf sift size ones all view fwd together underway without image drainOf quietOf run row todo round drain leaving
 leaving-hold = refl
 
 joining-hold : every joining ≡ true
-unfolding answer-is images-are drained-is join produce forward leave H bytes ran same alike holds every A7 runAll runFrom turnOf talliedOf refusal effect ifAccepted after kindOf deliveriesOf turned turnedOf need refusalProduce refusalForward refusalLeave refusalJoin unionIf minusIf keepIf linkUp linkDown cleared placed left joined withoutIf moved receivers given forwarded deliveries holders isNew produced putFields putHead readAt pickRead decodeOf fieldsAt orSeven skipOk pairOk topicsOk leaveOk joinOk noMore noSets noMessage blankTable blankNet le putLe edit has union meet minus only withIf setOf sift size ones all view fwd together underway without image drainOf quietOf run row todo round drain joining
+unfolding answer-is images-are drained-is join produce forward leave H bytes ran same alike holds every A7 runAll runFrom turnOf talliedOf refusal effect ifAccepted after kindOf deliveriesOf turned turnedOf need refusalProduce refusalForward refusalLeave refusalJoin unionIf minusIf keepIf linkUp linkDown cleared placed left joined withoutIf moved receivers given forwarded deliveries holders isNew produced putFields putHead readingOf readOf readingAt readAt decodeOf fieldsAt orSeven skipOk pairOk topicsOk leaveOk joinOk noMore noSets noMessage blankTable blankNet le putLe edit has union meet minus only withIf setOf sift size ones all view fwd together underway without image drainOf quietOf run row todo round drain joining
 joining-hold = refl
 
 draining-hold : every draining ≡ true
-unfolding answer-is images-are drained-is join produce forward leave H bytes ran same alike holds every A7 runAll runFrom turnOf talliedOf refusal effect ifAccepted after kindOf deliveriesOf turned turnedOf need refusalProduce refusalForward refusalLeave refusalJoin unionIf minusIf keepIf linkUp linkDown cleared placed left joined withoutIf moved receivers given forwarded deliveries holders isNew produced putFields putHead readAt pickRead decodeOf fieldsAt orSeven skipOk pairOk topicsOk leaveOk joinOk noMore noSets noMessage blankTable blankNet le putLe edit has union meet minus only withIf setOf sift size ones all view fwd together underway without image drainOf quietOf run row todo round drain draining
+unfolding answer-is images-are drained-is join produce forward leave H bytes ran same alike holds every A7 runAll runFrom turnOf talliedOf refusal effect ifAccepted after kindOf deliveriesOf turned turnedOf need refusalProduce refusalForward refusalLeave refusalJoin unionIf minusIf keepIf linkUp linkDown cleared placed left joined withoutIf moved receivers given forwarded deliveries holders isNew produced putFields putHead readingOf readOf readingAt readAt decodeOf fieldsAt orSeven skipOk pairOk topicsOk leaveOk joinOk noMore noSets noMessage blankTable blankNet le putLe edit has union meet minus only withIf setOf sift size ones all view fwd together underway without image drainOf quietOf run row todo round drain draining
 draining-hold = refl
 
 again-hold : every again ≡ true
-unfolding answer-is images-are drained-is join produce forward leave H bytes ran same alike holds every A7 runAll runFrom turnOf talliedOf refusal effect ifAccepted after kindOf deliveriesOf turned turnedOf need refusalProduce refusalForward refusalLeave refusalJoin unionIf minusIf keepIf linkUp linkDown cleared placed left joined withoutIf moved receivers given forwarded deliveries holders isNew produced putFields putHead readAt pickRead decodeOf fieldsAt orSeven skipOk pairOk topicsOk leaveOk joinOk noMore noSets noMessage blankTable blankNet le putLe edit has union meet minus only withIf setOf sift size ones all view fwd together underway without image drainOf quietOf run row todo round drain again
+unfolding answer-is images-are drained-is join produce forward leave H bytes ran same alike holds every A7 runAll runFrom turnOf talliedOf refusal effect ifAccepted after kindOf deliveriesOf turned turnedOf need refusalProduce refusalForward refusalLeave refusalJoin unionIf minusIf keepIf linkUp linkDown cleared placed left joined withoutIf moved receivers given forwarded deliveries holders isNew produced putFields putHead readingOf readOf readingAt readAt decodeOf fieldsAt orSeven skipOk pairOk topicsOk leaveOk joinOk noMore noSets noMessage blankTable blankNet le putLe edit has union meet minus only withIf setOf sift size ones all view fwd together underway without image drainOf quietOf run row todo round drain again
 again-hold = refl
 
 joined-hold : (l r : List Row) → every l ≡ true → every r ≡ true → every (l ++ r) ≡ true

@@ -13,8 +13,8 @@ use Rattle.network.specs.declared.Network.{Network}
 use Rattle.network.specs.declared.Table.{Table}
 use Rattle.network.specs.State.{bytesOf}
 use Rattle.events.specs.declared.Read.{Read}
-use Rattle.events.specs.declared.Read.the-variants.{Taken, End, Refused}
-use Rattle.events.specs.Event.{readAt}
+use Rattle.events.specs.declared.Read.the-variants.{Taken, End, Unknown, Unfit}
+use Rattle.events.specs.Event.{readingOf, readAt}
 use Rattle.events.specs.declared.kind.Kind.{Kind}
 use Rattle.events.specs.declared.kind.Kind.the-variants.{Skip, Produce, Forward, Subscribe, Unsubscribe, Leave, Join}
 use Rattle.floodnet.specs.declared.Turned.{Turned}
@@ -59,11 +59,12 @@ pub record Outcome : Type 0 where
 abbrev pub refusedBy : ℕ → Turned
 refusedBy number = record { number = number; kind = Skip; deliveries = 0 }
 
--- what was read is done, or refused by 6 or 7
+-- what was read is done, or refused by its number, 6 or 7
 unfoldable pub turnOf : Table → Network → Read → Outcome
 turnOf b n (Taken e) = record { turned = turnedOf n b e; network = after n b e }
-turnOf b n End = record { turned = refusedBy 0; network = n }
-turnOf b n (Refused k) = record { turned = refusedBy k; network = n }
+turnOf b n End = record { turned = refusedBy (readingOf End .number); network = n }
+turnOf b n Unknown = record { turned = refusedBy (readingOf Unknown .number); network = n }
+turnOf b n Unfit = record { turned = refusedBy (readingOf Unfit .number); network = n }
 
 -- ---- a run
 

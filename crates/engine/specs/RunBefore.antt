@@ -11,7 +11,7 @@ use lib.Seq.{getD-take, length-take-le}
 use Rattle.endian.specs.Le.{le, le-same}
 use Rattle.network.specs.declared.Network.{Network}
 use Rattle.network.specs.declared.Table.{Table}
-use Rattle.events.specs.Event.{readAt, fieldsAt, decodeOf}
+use Rattle.events.specs.Event.{readOf, readAt, fieldsAt, decodeOf}
 use Rattle.events.specs.RoundTrip.{read-inside}
 use Rattle.engine.specs.declared.Tally.{Tally}
 use Rattle.engine.specs.Run.{zeroTally, Final, stopsAt, allDone, runFrom, runAll}
@@ -34,12 +34,14 @@ fields-same l r at h =
 
 -- what stands at a place of the first a records
 read-take : (ev : List ℕ) (a i : ℕ) → a ≤ length ev / 16 → i < a → readAt (take (16 * a) ev) i ≡ readAt ev i
+unfolding readAt
 read-take ev a i h l =
     let fits : 16 * a ≤ length ev = omega arith in
     let long : length (take (16 * a) ev) ≡ 16 * a = length-take-le (16 * a) ev fits in
-    read-inside (take (16 * a) ev) i (omega arith)
+    ap readOf
+    (read-inside (take (16 * a) ev) i (omega arith)
     ∙ ap decodeOf (fields-same (take (16 * a) ev) ev (i * 16) λ j b. getD-take (16 * a) ev j 0 (omega arith))
-    ∙ sym (read-inside ev i (omega arith))
+    ∙ sym (read-inside ev i (omega arith)))
 
 -- a run depends on what it reads alone
 run-same : (k : ℕ) (l r : List ℕ) (place : ℕ) (b : Table) (n : Network) (t : Tally) → ((i : ℕ) → i < place + k → readAt l i ≡ readAt r i)

@@ -14,7 +14,7 @@ use Rattle.sets.specs.Counts.{count-ext, count-first}
 use Rattle.network.specs.declared.Network.{Network}
 use Rattle.network.specs.declared.Table.{Table}
 use Rattle.events.specs.declared.Read.{Read}
-use Rattle.events.specs.declared.Read.the-variants.{Taken, End, Refused}
+use Rattle.events.specs.declared.Read.the-variants.{Taken, End, Unknown, Unfit}
 use Rattle.events.specs.Event.{readAt}
 use Rattle.events.specs.declared.kind.Kind.{Kind}
 use Rattle.events.specs.declared.kind.Kind.the-variants.{Skip, Produce, Forward, Subscribe, Unsubscribe, Leave, Join}
@@ -29,7 +29,8 @@ use Rattle.engine.specs.RunLaws.{outcomeAt, tallyAfter, run-ind}
 unfoldable pub kindIn : Read → Kind
 kindIn (Taken e) = kindOf e
 kindIn End = Kind.Skip
-kindIn (Refused k) = Kind.Skip
+kindIn Unknown = Kind.Skip
+kindIn Unfit = Kind.Skip
 
 abbrev pub kindAt : List ℕ → ℕ → Kind
 kindAt ev i = kindIn (readAt ev i)
@@ -47,7 +48,8 @@ turn-kind b n (Taken e) = first (refusal n b e)
     first zero = refl
     first (suc k) = refl
 turn-kind b n End = refl
-turn-kind b n (Refused k) = refl
+turn-kind b n Unknown = refl
+turn-kind b n Unfit = refl
 
 -- the counts of a tally after an event of a kind
 pub tallied-produced : (t : Tally) (kind : Kind) (d : ℕ) → talliedOf t kind d .produced ≡ t .produced + digit (alike kind Kind.Produce)

@@ -16,7 +16,7 @@ use Rattle.network.specs.Network.{Rows}
 use Rattle.network.specs.Sound.{Sound}
 use Rattle.events.specs.declared.Event.{Event}
 use Rattle.events.specs.declared.Read.{Read}
-use Rattle.events.specs.declared.Read.the-variants.{Taken, End, Refused}
+use Rattle.events.specs.declared.Read.the-variants.{Taken, End, Unknown, Unfit}
 use Rattle.events.specs.Event.{readAt}
 use Rattle.events.specs.Kind.{kindOf}
 use Rattle.floodnet.specs.Step.{refusal, effect, ifAccepted, after, deliveriesOf, turned, turnedOf}
@@ -32,7 +32,8 @@ use Rattle.engine.specs.RunSound.{ReadFits, reads-fit}
 unfoldable pub before : Read → List Event → List Event
 before (Taken e) l = e ∷ l
 before End l = l
-before (Refused k) l = l
+before Unknown l = l
+before Unfit l = l
 
 -- the events that a run of k records from `place` takes: those before the first refusal
 unfoldable pub takenFrom : ℕ → List ℕ → ℕ → Table → Network → List Event
@@ -51,7 +52,8 @@ one-more b n (Taken e) f h l m x = first (refusal n b e) refl h x
     first zero z i y = ((f, z, y .0), y .1)
     first (suc k) z i y = absurd (omega arith)
 one-more b n End f h l m x = x
-one-more b n (Refused k) f h l m x = x
+one-more b n Unknown f h l m x = x
+one-more b n Unfit f h l m x = x
 
 module _ (ev : List ℕ) (bytes : Bytes ev) (b : Table) where
   pub run-takes : (k place : ℕ) (n : Network) (t : Tally)

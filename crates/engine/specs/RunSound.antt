@@ -19,7 +19,7 @@ use Rattle.network.specs.Sound.{Sound}
 use Rattle.events.specs.declared.Event.{Event}
 use Rattle.events.specs.declared.Event.the-variants.{Skip, Produce, Forward, Subscribe, Unsubscribe, Leave, Join}
 use Rattle.events.specs.declared.Read.{Read}
-use Rattle.events.specs.declared.Read.the-variants.{Taken, End, Refused}
+use Rattle.events.specs.declared.Read.the-variants.{Taken, End, Unknown, Unfit}
 use Rattle.events.specs.Event.{readAt}
 use Rattle.events.specs.declared.kind.Kind.{Kind}
 use Rattle.events.specs.Kind.{kindOf, codeOf, alike}
@@ -38,7 +38,8 @@ use Rattle.engine.specs.RunCounts.{tallied-produced, tallied-forwards, t
 unfoldable pub ReadFits : Read → Type 0
 ReadFits (Taken e) = EventFits e
 ReadFits End = Unit {0}
-ReadFits (Refused k) = Unit {0}
+ReadFits Unknown = Unit {0}
+ReadFits Unfit = Unit {0}
 
 pub reads-fit : (ev : List ℕ) → Bytes ev → (place : ℕ) → ReadFits (readAt ev place)
 unfolding ReadFits
@@ -47,7 +48,8 @@ reads-fit ev h place = first (readAt ev place) refl
     first : (r : Read) → readAt ev place ≡ r → ReadFits r
     first (Taken e) z = read-fits ev place e h z
     first End z = tt
-    first (Refused k) z = tt
+    first Unknown z = tt
+    first Unfit z = tt
 
 -- ---- one event
 
@@ -55,7 +57,8 @@ pub turn-sound : {b : Table} {n : Network} → Sound n → Rows b → (r : Read)
 unfolding turnOf ReadFits
 turn-sound s rows (Taken e) f = after-sound s rows e f
 turn-sound s rows End f = s
-turn-sound s rows (Refused k) f = s
+turn-sound s rows Unknown f = s
+turn-sound s rows Unfit f = s
 
 -- pairs after an accepted event, by what the tally counts of it
 turn-pairs : {b : Table} {n : Network} → Sound n → Rows b → (r : Read) → ReadFits r → turnOf b n r .turned .number ≡ 0
@@ -72,7 +75,8 @@ turn-pairs {b} {n} s rows (Taken e) f h = first (refusal n b e) refl h
     first zero z i = effect-pairs s rows e f z
     first (suc k) z i = absurd (omega arith)
 turn-pairs s rows End f h = refl
-turn-pairs s rows (Refused k) f h = refl
+turn-pairs s rows Unknown f h = refl
+turn-pairs s rows Unfit f h = refl
 
 -- an event that is no forward delivers nothing
 event-delivers : (n : Network) (b : Table) (e : Event) → (kindOf e ≡ Kind.Forward) ⊎ (deliveriesOf n b e ≡ 0)
@@ -93,7 +97,8 @@ turn-delivers b n (Taken e) = first (refusal n b e)
     first zero = event-delivers n b e
     first (suc k) = inr refl
 turn-delivers b n End = inr refl
-turn-delivers b n (Refused k) = inr refl
+turn-delivers b n Unknown = inr refl
+turn-delivers b n Unfit = inr refl
 
 -- ---- a run
 

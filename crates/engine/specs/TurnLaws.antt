@@ -1,12 +1,13 @@
 -- Laws of one event that was read, for the function that does it: by what was read. Assumes nothing.
-use mathlib.Core.Path.{_≡_, refl, sym, ap, subst, _∙_}
+use mathlib.Core.Path.{_≡_, refl, ap, subst}
 use Prim.Native.Nat.{ℕ, zero, suc, _≤_}
 use native.Mathlib.Omega.{arith}
 use Rattle.network.specs.declared.Network.{Network}
 use Rattle.network.specs.declared.Table.{Table}
 use Rattle.events.specs.declared.Event.{Event}
 use Rattle.events.specs.declared.Read.{Read}
-use Rattle.events.specs.declared.Read.the-variants.{Taken, End, Refused}
+use Rattle.events.specs.declared.Read.the-variants.{Taken, End, Unknown, Unfit}
+use Rattle.events.specs.Event.{readingOf}
 use Rattle.events.specs.Fits.{EventFits}
 use Rattle.floodnet.specs.declared.Turned.{Turned}
 use Rattle.events.specs.Kind.{kindOf}
@@ -27,13 +28,14 @@ pub turn-taken : (b : Table) (n m : Network) (r : Turned) {read : Read} {e : Eve
 unfolding turnOf
 turn-taken b n m r k h = rw k h
 
-pub turn-end : (b : Table) (n : Network) (r : Turned) {read : Read} → read ≡ End → r ≡ refusedBy 0 → Turn b n read n r
+-- no event was taken: by the number that was read
+pub turn-none : (b : Table) (n : Network) (r : Turned) (read : Read) → ((e : Event) → read ≡ Taken e → ⊥) → r ≡ refusedBy (readingOf read .number)
+    → Turn b n read n r
 unfolding turnOf
-turn-end b n r k h = rw k (refl, (h, omega (arith, ap (λ (x : Turned). x .deliveries) h)))
-
-pub turn-refused : (b : Table) (n : Network) (r : Turned) {read : Read} {number : ℕ} → read ≡ Refused number → r ≡ refusedBy number → Turn b n read n r
-unfolding turnOf
-turn-refused b n r k h = rw k (refl, (h, omega (arith, ap (λ (x : Turned). x .deliveries) h)))
+turn-none b n r (Taken e) not h = absurd (not e refl)
+turn-none b n r End not h = (refl, (h, omega (arith, ap (λ (x : Turned). x .deliveries) h)))
+turn-none b n r Unknown not h = (refl, (h, omega (arith, ap (λ (x : Turned). x .deliveries) h)))
+turn-none b n r Unfit not h = (refl, (h, omega (arith, ap (λ (x : Turned). x .deliveries) h)))
 
 -- a refused event leaves the network as it was
 pub refused-same : (b : Table) (n : Network) (read : Read) → (turnOf b n read .turned .number ≡ 0 → ⊥) → turnOf b n read .network ≡ n
@@ -44,4 +46,5 @@ refused-same b n (Taken e) h = first (refusal n b e) h
     first zero z = absurd (z refl)
     first (suc k) z = refl
 refused-same b n End h = refl
-refused-same b n (Refused k) h = refl
+refused-same b n Unknown h = refl
+refused-same b n Unfit h = refl

@@ -28,7 +28,7 @@ fn refused(number: u8) -> Turned
     }
 }
 
-// What was read is done, or refused by 6 or 7.
+// What was read is done, or refused by the number that reading answers.
 fn turn(
     present: &mut u32,
     pubs: &mut [u32; 32],
@@ -59,8 +59,7 @@ fn turn(
             origins,
             e,
         ),
-        Read::End => refused(0),
-        Read::Refused(k) => refused(k),
+        _ => refused(events::answered(read).number),
     }
 }
 

@@ -1,18 +1,15 @@
 -- Reading fields and laying an event out are inverse to each other. Assumes nothing.
-use Prim.Native.Nat.{ℕ, _≤_, _<_}
+use Prim.Native.Nat.{ℕ, _<_}
 use native.Mathlib.Omega.{arith}
-use mathlib.Core.Path.{_≡_, refl, sym, subst}
-use mathlib.Core.Logic.{_⊎_, inl, inr}
-use mathlib.Core.Bool.{Bool, true, false}
-use lib.Dec.{eqb}
-use borrow.Author.Tests.{lt-ltb, ltb-true, eqb-true, ne-eqb}
+use mathlib.Core.Path.{_≡_, refl, sym, ap, subst}
+use mathlib.Core.Bool.{Bool, true, false, cond}
+use borrow.Author.Tests.{lt-ltb, ltb-true, eqb-true}
 use Rattle.sets.specs.Bools.{and-yes}
 use Rattle.events.specs.declared.Fields.{Fields}
 use Rattle.events.specs.declared.Event.{Event}
 use Rattle.events.specs.declared.Event.the-variants.{Skip, Produce, Forward, Subscribe, Unsubscribe, Leave, Join}
-use Rattle.events.specs.declared.Read.{Read}
-use Rattle.events.specs.declared.Read.the-variants.{Taken, End, Refused}
-use Rattle.events.specs.Event.{noMore, noSets, noMessage, skipOk, pairOk, topicsOk, leaveOk, joinOk, pickRead, orSeven, decodeOf}
+use Rattle.events.specs.declared.Reading.{Reading}
+use Rattle.events.specs.Event.{taken, noMore, noSets, noMessage, skipOk, pairOk, topicsOk, leaveOk, joinOk, orSeven, decodeOf}
 use Rattle.events.specs.Writing.{fieldsMk, fieldsOf}
 use Rattle.events.specs.Fits.{EventFits, Small}
 
@@ -23,8 +20,8 @@ fields-path f g a b c d p q r =
     λ i. record { code = a i; peer = b i; message = c i; zero = d i; subs = p i; pubs = q i; neighbours = r i }
 
 -- an event that fits is read from its own fields
-pub decode-fields : (e : Event) → EventFits e → decodeOf (fieldsOf e) ≡ Taken e
-unfolding EventFits fieldsOf decodeOf pickRead orSeven skipOk pairOk topicsOk leaveOk joinOk noMessage noSets noMore
+pub decode-fields : (e : Event) → EventFits e → decodeOf (fieldsOf e) ≡ taken e
+unfolding EventFits fieldsOf decodeOf orSeven skipOk pairOk topicsOk leaveOk joinOk noMessage noSets noMore
 decode-fields Skip h = refl
 decode-fields (Produce p m) h = simp (lt-ltb _ _ (h .0), lt-ltb _ _ (h .1))
 decode-fields (Forward p m) h = simp (lt-ltb _ _ (h .0), lt-ltb _ _ (h .1))
@@ -39,16 +36,15 @@ pub record Gave (f : Fields) (e : Event) : Type 0 where
   pub small : Small e
 
 -- one case of the code at a time: the test held, or the later cases gave the event
-pick-taken : (P : Type 0) (b : Bool) (x y : Read) (e : Event) → (b ≡ true → x ≡ Taken e → P) → (y ≡ Taken e → P) → pickRead b x y ≡ Taken e → P
-unfolding pickRead
+pick-taken : (P : Type 0) (b : Bool) (x y : Reading) (e : Event) → (b ≡ true → x ≡ taken e → P) → (y ≡ taken e → P) → cond b x y ≡ taken e → P
 pick-taken P true x y e f g h = f refl h
 pick-taken P false x y e f g h = g h
 
 -- an event came through the test of 7
-seven-taken : (b : Bool) (d e : Event) → orSeven b d ≡ Taken e → (b ≡ true) × (d ≡ e)
+seven-taken : (b : Bool) (d e : Event) → orSeven b d ≡ taken e → (b ≡ true) × (d ≡ e)
 unfolding orSeven
-seven-taken true d e h = (refl, cc)
-seven-taken false d e h = let z : _≡_ {A = ℕ} 0 1 = cc in absurd (omega arith)
+seven-taken true d e h = (refl, ap (λ (r : Reading). r .event) h)
+seven-taken false d e h = absurd (omega (arith, ap (λ (r : Reading). r .number) h))
 
 -- the tests of unused fields, as equations
 no-more-yes : (f : Fields) → noMore f ≡ true → (f .pubs ≡ 0) × (f .neighbours ≡ 0)
@@ -112,13 +108,13 @@ join-yes f c h =
     (ltb-true _ _ (a .0), fields-path _ f (sym c) refl (sym (m .0)) (sym (m .1)) refl refl refl)
 
 -- an event d that passed its test, and is e
-gives : (f : Fields) (b : Bool) (d e : Event) → orSeven b d ≡ Taken e → (b ≡ true → Gave f d) → Gave f e
+gives : (f : Fields) (b : Bool) (d e : Event) → orSeven b d ≡ taken e → (b ≡ true → Gave f d) → Gave f e
 gives f b d e h g =
     let t = seven-taken b d e h in
     subst (λ (x : Event). Gave f x) (t .1) (g (t .0))
 
 -- Fields that are read as an event are the event's own, and the event's peer and message are small.
-pub decode-gave : (f : Fields) (e : Event) → decodeOf f ≡ Taken e → Gave f e
+pub decode-gave : (f : Fields) (e : Event) → decodeOf f ≡ taken e → Gave f e
 unfolding decodeOf fieldsOf Small
 decode-gave f e =
     pick-taken (Gave f e) _ _ _ e (λ k h. gives f _ _ e h (λ t. record { fields = skip-yes f (eqb-true _ _ k) t; small = tt }))
@@ -128,34 +124,4 @@ decode-gave f e =
     (pick-taken (Gave f e) _ _ _ e (λ k h. gives f _ _ e h (λ t. let y = topics-yes f 4 (eqb-true _ _ k) t in record { fields = y .1; small = y .0 }))
     (pick-taken (Gave f e) _ _ _ e (λ k h. gives f _ _ e h (λ t. let y = leave-yes f (eqb-true _ _ k) t in record { fields = y .1; small = y .0 }))
     (pick-taken (Gave f e) _ _ _ e (λ k h. gives f _ _ e h (λ t. let y = join-yes f (eqb-true _ _ k) t in record { fields = y .1; small = y .0 }))
-    (λ h. let z : _≡_ {A = ℕ} 0 1 = cc in absurd (omega arith))))))))
-
--- a record is always judged: an event, or refused by 6 or 7
-unfoldable pub Judged : Read → Type 0
-Judged (Taken e) = Unit {0}
-Judged End = ⊥
-Judged (Refused n) = (n ≡ 6) ⊎ (n ≡ 7)
-
-judged-pick : (b : Bool) (x y : Read) → Judged x → Judged y → Judged (pickRead b x y)
-unfolding pickRead
-judged-pick true x y h k = h
-judged-pick false x y h k = k
-
-judged-seven : (b : Bool) (e : Event) → Judged (orSeven b e)
-unfolding orSeven Judged
-judged-seven true e = tt
-judged-seven false e = inr refl
-
-pub decode-judged : (f : Fields) → Judged (decodeOf f)
-unfolding decodeOf Judged
-decode-judged f =
-    judged-pick _ _ _ (judged-seven _ _) (judged-pick _ _ _ (judged-seven _ _) (judged-pick _ _ _ (judged-seven _ _)
-    (judged-pick _ _ _ (judged-seven _ _) (judged-pick _ _ _ (judged-seven _ _) (judged-pick _ _ _ (judged-seven _ _)
-    (judged-pick _ _ _ (judged-seven _ _) (inl refl)))))))
-
--- "Codes 7 to 255 are refused", by 6, whatever the other bytes are
-pub unknown-code : (f : Fields) → 7 ≤ f .code → decodeOf f ≡ Refused 6
-unfolding decodeOf pickRead
-unknown-code f h =
-    let n : (k : ℕ) → k < 7 → eqb (f .code) k ≡ false = λ k l. ne-eqb (f .code) k (λ e. omega arith) in
-    simp (n 0 (omega arith), n 1 (omega arith), n 2 (omega arith), n 3 (omega arith), n 4 (omega arith), n 5 (omega arith), n 6 (omega arith))
+    (λ h. absurd (omega (arith, ap (λ (r : Reading). r .number) h)))))))))

@@ -1,4 +1,4 @@
--- What a record of 16 bytes means: the event, or the number of the refusal (document 01, "Records", "Events"). Assumes nothing.
+-- What stands at a place of the event bytes, in 01's numbers and values (document 01, "Records", "Events"). Assumes nothing.
 --   "An event read is one of seven kinds and carries only its own fields. Fields that a kind doesn't use must be zero.
 --   Codes 7 to 255 are refused."
 use Prim.Native.Nat.{ℕ, _+_, _*_, _/_}
@@ -13,19 +13,31 @@ use Rattle.events.specs.declared.Joining.{Joining}
 use Rattle.events.specs.declared.Event.{Event}
 use Rattle.events.specs.declared.Event.the-variants.{Skip, Produce, Forward, Subscribe, Unsubscribe, Leave, Join}
 use Rattle.events.specs.declared.Read.{Read}
-use Rattle.events.specs.declared.Read.the-variants.{Taken, End, Refused}
+use Rattle.events.specs.declared.Read.the-variants.{Taken, End, Unknown, Unfit}
 use Rattle.events.specs.declared.Reading.{Reading}
 
--- The answer in 01's numbers and values, case by case: 0 with the event; 0 at the end; the refusal's number. Where no
--- event was taken it is skip.
-unfoldable pub readingOf : Read → Reading
-readingOf (Taken e) = record { number = 0; event = e }
-readingOf End = record { number = 0; event = Skip }
-readingOf (Refused n) = record { number = n; event = Skip }
+-- A reading in 01's numbers and values: a record was there, and its event is taken (0) or refused by a number; or no record
+-- was there (0). Where no event is taken it is skip.
+abbrev pub taken : Event → Reading
+taken e = record { found = true; number = 0; event = e }
 
--- 01's number of what was read
-abbrev pub numberOf : Read → ℕ
-numberOf r = readingOf r .number
+abbrev pub refused : ℕ → Reading
+refused number = record { found = true; number = number; event = Skip }
+
+abbrev pub ended : Reading
+ended = record { found = false; number = 0; event = Skip }
+
+-- 01's number and values for each case of the enum that reading answers: 6 is an unknown code, 7 what does not fit. The
+-- promises of reading are stated through this.
+unfoldable pub readingOf : Read → Reading
+readingOf (Taken e) = taken e
+readingOf End = ended
+readingOf Unknown = refused 6
+readingOf Unfit = refused 7
+
+-- the case that a reading is of
+unfoldable pub readOf : Reading → Read
+readOf r = cond (r .found) (cond (eqb (r .number) 0) (Taken (r .event)) (cond (eqb (r .number) 6) Unknown Unfit)) End
 
 -- "Unused byte not zero": the words from byte 8 on are zero; all three are; message and byte 3 are.
 unfoldable pub noMore : Fields → Bool
@@ -53,31 +65,25 @@ leaveOk f = ltb (f .peer) 32 && (noMessage f && noSets f)
 unfoldable pub joinOk : Fields → Bool
 joinOk f = ltb (f .peer) 32 && noMessage f
 
--- one of two answers, by a test
-unfoldable pub pickRead : Bool → Read → Read → Read
-pickRead true a b = a
-pickRead false a b = b
-
 -- the event, or 7
-unfoldable pub orSeven : Bool → Event → Read
-orSeven true e = Taken e
-orSeven false e = Refused 7
+unfoldable pub orSeven : Bool → Event → Reading
+orSeven ok e = cond ok (taken e) (refused 7)
 
 -- the three sets of a join
 abbrev pub joiningOf : Fields → Joining
 joiningOf f = record { subs = f .subs; pubs = f .pubs; neighbours = f .neighbours }
 
 -- The code decides: seven kinds, and every other code is refused by 6, before 7 is tested.
-unfoldable pub decodeOf : Fields → Read
+unfoldable pub decodeOf : Fields → Reading
 decodeOf f =
-    pickRead (eqb (f .code) 0) (orSeven (skipOk f) Skip)
-    (pickRead (eqb (f .code) 1) (orSeven (pairOk f) (Produce (peer (f .peer)) (message (f .message))))
-    (pickRead (eqb (f .code) 2) (orSeven (pairOk f) (Forward (peer (f .peer)) (message (f .message))))
-    (pickRead (eqb (f .code) 3) (orSeven (topicsOk f) (Subscribe (peer (f .peer)) (f .subs)))
-    (pickRead (eqb (f .code) 4) (orSeven (topicsOk f) (Unsubscribe (peer (f .peer)) (f .subs)))
-    (pickRead (eqb (f .code) 5) (orSeven (leaveOk f) (Leave (peer (f .peer))))
-    (pickRead (eqb (f .code) 6) (orSeven (joinOk f) (Join (peer (f .peer)) (joiningOf f)))
-    (Refused 6)))))))
+    cond (eqb (f .code) 0) (orSeven (skipOk f) Skip)
+    (cond (eqb (f .code) 1) (orSeven (pairOk f) (Produce (peer (f .peer)) (message (f .message))))
+    (cond (eqb (f .code) 2) (orSeven (pairOk f) (Forward (peer (f .peer)) (message (f .message))))
+    (cond (eqb (f .code) 3) (orSeven (topicsOk f) (Subscribe (peer (f .peer)) (f .subs)))
+    (cond (eqb (f .code) 4) (orSeven (topicsOk f) (Unsubscribe (peer (f .peer)) (f .subs)))
+    (cond (eqb (f .code) 5) (orSeven (leaveOk f) (Leave (peer (f .peer))))
+    (cond (eqb (f .code) 6) (orSeven (joinOk f) (Join (peer (f .peer)) (joiningOf f)))
+    (refused 6)))))))
 
 -- "0 code; 1 peer; 2 message; 3 zero; 4-7 subs or topics; 8-11 pubs; 12-15 neighbours", from byte `at` on
 unfoldable pub fieldsAt : List ℕ → ℕ → Fields
@@ -92,10 +98,10 @@ fieldsAt l at =
       neighbours = le 4 l (at + 12);
     }
 
--- What stands at a place, which counts records: past the last whole record, the end.
-unfoldable pub readAt : List ℕ → ℕ → Read
-readAt l place = pickRead (ltb place (length l / 16)) (decodeOf (fieldsAt l (place * 16))) End
+-- What stands at a place, which counts records: past the last whole record, no record.
+unfoldable pub readingAt : List ℕ → ℕ → Reading
+readingAt l place = cond (ltb place (length l / 16)) (decodeOf (fieldsAt l (place * 16))) ended
 
--- the place after this one; at the end the place stays
-unfoldable pub placeAfter : List ℕ → ℕ → ℕ
-placeAfter l place = cond (ltb place (length l / 16)) (place + 1) place
+-- the same as a case, for definitions that go by cases
+unfoldable pub readAt : List ℕ → ℕ → Read
+readAt l place = readOf (readingAt l place)

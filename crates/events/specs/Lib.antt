@@ -1,6 +1,7 @@
 pub mod Event
 pub mod Kind
 pub mod Writing
+pub mod ReadingLaws
 pub mod Fits
 pub mod Decoded
 pub mod Bytes

@@ -1,7 +1,7 @@
 -- The record of an event: reading's mirror (document 01, "Records"). Assumes nothing.
 use Prim.Native.Nat.{ℕ, _+_, _*_, _/_}
 use mathlib.Core.List.{List}
-use mathlib.Core.Bool.{Bool, true, false}
+use mathlib.Core.Bool.{cond}
 use lib.ListN.{length, set, replicate}
 use lib.Dec.{ltb}
 use Rattle.endian.specs.Le.{putLe}
@@ -36,11 +36,6 @@ putFields l at f = putLe 4 (putLe 4 (putLe 4 (putHead l at f) (at + 4) (f .subs)
 unfoldable pub recordOf : Event → List ℕ
 recordOf e = putFields (replicate 16 0) 0 (fieldsOf e)
 
--- one of two lists of bytes, by a test
-unfoldable pub pickBytes : Bool → List ℕ → List ℕ → List ℕ
-pickBytes true a b = a
-pickBytes false a b = b
-
 -- the bytes with an event's record at a place; where it does not fit, the bytes as they were
 unfoldable pub writtenAt : List ℕ → ℕ → Event → List ℕ
-writtenAt l place e = pickBytes (ltb place (length l / 16)) (putFields l (place * 16) (fieldsOf e)) l
+writtenAt l place e = cond (ltb place (length l / 16)) (putFields l (place * 16) (fieldsOf e)) l

@@ -1,19 +1,20 @@
 // Events: the seven kinds, one 16-byte record read and written, and the reader that carries the event bytes together
 // with its place (document 01, "Records", "Events").
 //
-// What stands at a place of the event bytes is `readAt` (specs/Event.antt): the event, the end, or a refusal, 6 (code 7 to
-// 255) before 7 (peer above 31, message above 63, an unused byte not zero). Reading answers the enum `Read`; `readingOf`
-// gives 01's number and the event of each of its cases, and `answered` works it out for a caller that wants a struct.
-// The record of an event is `recordOf` (specs/Writing.antt). specs/Fits.antt: an event that is read is in range.
-// specs/RoundTrip.antt: what was written is read, and what is read is what writing gives. specs/Settled.antt: any two
-// outcomes that satisfy a promise here are equal.
+// What stands at a place of the event bytes is `readingAt` (specs/Event.antt), in 01's numbers and values: whether a record is
+// there, the number (0, or 6 before 7) and the event. Reading answers the enum `Read`; `readingOf` gives the number and values of
+// each of its cases, and the promises of reading are stated through it. It fixes the case (specs/ReadingLaws.antt), so nothing is
+// lost; `answered` works it out.
+// The record of an event is `recordOf` (specs/Writing.antt). specs/RoundTrip.antt: an event that is read is in range, what was
+// written is read, and 16 bytes that are read are what writing gives. specs/Settled.antt: any two outcomes that satisfy a
+// promise here are equal.
 //
-// `new`, `next`, `advanced` and `event_at` hold a Reader and are proved by walks; callers use `event_at`, or `read_at`.
+// `new`, `next` and `event_at` hold a Reader and are proved by walks; callers use `event_at`, or `read_at`.
 ghost use mathlib.Core.Path.{_≡_};
 ghost use Prim.Native.Nat.{_+_, _*_, _/_, _≤_, _<_};
 ghost use lib.ListN.{length};
 ghost use lib.Dec.{ltb};
-ghost use Rattle.events.specs.Event.{orSeven, decodeOf, fieldsAt, readAt, placeAfter, readingOf, joiningOf};
+ghost use Rattle.events.specs.Event.{refused, readingOf, orSeven, joiningOf, decodeOf, fieldsAt, readingAt};
 ghost use Rattle.events.specs.Writing.{fieldsMk, fieldsOf, putHead, putFields, recordOf, writtenAt};
 
 mod judge; // judge.rt: what refusal 7 tests, kind by kind
@@ -40,15 +41,18 @@ pub enum Event {
     Join(Peer, Joining),
 }
 
-// What reading finds: an event, nothing more, or the number of the refusal.
+// What reading finds: an event; no record any more; a code that is none of the seven (refusal 6); a peer or message out of
+// range, or an unused byte that is not zero (refusal 7).
 pub enum Read {
     Taken(Event),
     End,
-    Refused(u8),
+    Unknown,
+    Unfit,
 }
 
-// The same as a struct: 01's number, and the event (Skip where there is none).
+// The same in 01's numbers and values: whether a record was there, its number, and its event (Skip where none is taken).
 pub struct Reading {
+    pub found: bool,
     pub number: u8,
     pub event: Event,
 }
@@ -66,12 +70,12 @@ pub struct Fields {
 
 // The event, or refusal 7.
 fn or_seven(ok: bool, e: Event) -> Read
-    ensures { λ r. ⌜ r ≡ orSeven ok e ⌝ }
+    ensures { λ r. ⌜ readingOf r ≡ orSeven ok e ⌝ }
 {
     if ok {
         return Read::Taken(e);
     }
-    Read::Refused(7)
+    Read::Unfit
 }
 
 fn sets_of(f: Fields) -> Joining
@@ -84,9 +88,9 @@ fn sets_of(f: Fields) -> Joining
     }
 }
 
-// The event that the fields stand for, or the number of the refusal: "Codes 7 to 255 are refused."
+// The event that the fields stand for, or a refusal: "Codes 7 to 255 are refused."
 fn decode(f: Fields) -> Read
-    ensures { λ r. ⌜ r ≡ decodeOf f ⌝ }
+    ensures { λ r. ⌜ readingOf r ≡ decodeOf f ⌝ }
 {
     let code = f.code;
     match code {
@@ -106,7 +110,7 @@ fn decode(f: Fields) -> Read
         ),
         5 => or_seven(judge::leave_ok(f), Event::Leave(Peer(f.peer))),
         6 => or_seven(judge::join_ok(f), Event::Join(Peer(f.peer), sets_of(f))),
-        7..=255 => Read::Refused(6),
+        7..=255 => Read::Unknown,
     }
 }
 
@@ -130,7 +134,7 @@ fn fields_at(bytes: &[u8], at: usize) -> Fields
 
 // The work: what stands at a place, which counts records, of the event bytes.
 pub fn read_at(bytes: &[u8], place: usize) -> Read
-    ensures { λ r. ⌜ r ≡ readAt (now (bytes .entry)) place ⌝ }
+    ensures { λ r. ⌜ readingOf r ≡ readingAt (now (bytes .entry)) place ⌝ }
 {
     if bytes.len() / 16 <= place {
         return Read::End;
@@ -138,20 +142,34 @@ pub fn read_at(bytes: &[u8], place: usize) -> Read
     decode(fields_at(bytes, place * 16))
 }
 
-// What was read, by 01's number, with the event.
+// A record that is refused by a number.
+fn refusal(number: u8) -> Reading
+    ensures { λ a. ⌜ a ≡ refused number ⌝ }
+{
+    Reading {
+        found: true,
+        number,
+        event: Event::Skip,
+    }
+}
+
+// What was read, in 01's numbers and values: for a caller that passes the number on.
 pub fn answered(r: Read) -> Reading
     ensures { λ a. ⌜ a ≡ readingOf r ⌝ }
 {
     match r {
-        Read::Taken(event) => Reading { number: 0, event },
+        Read::Taken(event) => Reading {
+            found: true,
+            number: 0,
+            event,
+        },
         Read::End => Reading {
+            found: false,
             number: 0,
             event: Event::Skip,
         },
-        Read::Refused(number) => Reading {
-            number,
-            event: Event::Skip,
-        },
+        Read::Unknown => refusal(6),
+        Read::Unfit => refusal(7),
     }
 }
 
@@ -204,7 +222,7 @@ fn put_fields(bytes: &mut [u8], at: usize, f: Fields)
     endian::put4(&mut *bytes, at + 12, f.neighbours);
 }
 
-// The record of an event.
+// The record of an event. A crate that makes records writes them by this and `write_at` (02, E9); the engine only reads.
 pub fn record(e: Event) -> [u8; 16]
     ensures { λ r. ⌜ r ≡ recordOf e ⌝ }
 {
@@ -224,17 +242,6 @@ pub fn write_at(bytes: &mut [u8], place: usize, e: Event) -> bool
     true
 }
 
-// The place after this one; at the end the place stays.
-pub fn place_after(bytes: &[u8], place: usize) -> usize
-    ensures { λ n. ⌜ n ≡ placeAfter (now (bytes .entry)) place ⌝ }
-{
-    if place < bytes.len() / 16 {
-        place + 1
-    } else {
-        place
-    }
-}
-
 // "A reader that carries the event bytes together with its place."
 pub struct Reader<'a> {
     pub bytes: &'a [u8],
@@ -249,25 +256,14 @@ pub fn new<'a>(bytes: &'a [u8], place: usize) -> Reader<'a>
 
 // What stands at the reader's place.
 pub fn next<'a>(r: Reader<'a>) -> Read
-    ensures { λ s. ⌜ s ≡ readAt (now (r .entry .bytes)) (r .entry .place) ⌝ }
+    ensures { λ s. ⌜ readingOf s ≡ readingAt (now (r .entry .bytes)) (r .entry .place) ⌝ }
 {
     read_at(r.bytes, r.place)
 }
 
-// The reader one place on; at the end it stays where it is.
-pub fn advanced<'a>(r: Reader<'a>) -> Reader<'a>
-    ensures { λ q. ⌜ (q .bytes ≡ r .entry .bytes) × (q .place ≡ placeAfter (now (r .entry .bytes)) (r .entry .place)) ⌝ }
-{
-    let place = place_after(r.bytes, r.place);
-    Reader {
-        bytes: r.bytes,
-        place,
-    }
-}
-
 // Plain parameters: a Reader is made in a local and passed on. Whoever calls this needs no walk.
 pub fn event_at(bytes: &[u8], place: usize) -> Read
-    ensures { λ r. ⌜ r ≡ readAt (now (bytes .entry)) place ⌝ }
+    ensures { λ r. ⌜ readingOf r ≡ readingAt (now (bytes .entry)) place ⌝ }
 {
     next(new(bytes, place))
 }

@@ -9,8 +9,17 @@ enum-known-r c = search needs
 enum-told : tie.Need-enum-told
 enum-told c = search needs
 
-enum-known-r-2 : tie.Need-enum-known-r-2
-enum-known-r-2 c = search needs
+enum-told-2 : tie.Need-enum-told-2
+enum-told-2 c = search needs
+
+refusal-requires : tie.Need-refusal-requires
+refusal-requires c κs = search needs
+
+enum-told-3 : tie.Need-enum-told-3
+enum-told-3 c = search needs
+
+refusal-requires-2 : tie.Need-refusal-requires-2
+refusal-requires-2 c κs = search needs
 
 returns : tie.Need-returns
 unfolding readingOf
@@ -22,8 +31,23 @@ returns-2 c = rw (c .enum-told .given .1)
 
 returns-3 : tie.Need-returns-3
 unfolding readingOf
-returns-3 c = rw (c .before .r2 .given .1)
+returns-3 c = rw (c .before .enum-told2 .given .1) (c .refusal .ensures)
+
+returns-4 : tie.Need-returns-4
+unfolding readingOf
+returns-4 c = rw (c .before .enum-told3 .given .1) (c .refusal2 .ensures)
 
 pub answered-spec : {M : Type 1} → statement M
 answered-spec =
-    tie.close (tie.spec enum-known-r enum-told enum-known-r-2 returns returns-2 returns-3)
+    tie.close
+    (tie.spec
+    enum-known-r
+    enum-told
+    enum-told-2
+    refusal-requires
+    enum-told-3
+    refusal-requires-2
+    returns
+    returns-2
+    returns-3
+    returns-4)

@@ -1,5 +1,5 @@
 use borrow.Author.Tests.{ne-eqb}
-use Rattle.events.specs.Event.{decodeOf, pickRead}
+use Rattle.events.specs.Event.{readingOf, decodeOf}
 use borrow.Author.Needs.{needs}
 use Rattle.events.proofs.decode.Statement.{statement}
 use Rattle.events.proofs.decode.Tie as tie
@@ -50,35 +50,35 @@ or-seven-requires-7 : tie.Need-or-seven-requires-7
 or-seven-requires-7 c κs = search needs
 
 returns : tie.Need-returns
-unfolding decodeOf pickRead
+unfolding decodeOf
 returns c = simp (c .before .before .match .keys1, c .or-seven .ensures, c .before .skip-ok .ensures)
 
 returns-2 : tie.Need-returns-2
-unfolding decodeOf pickRead
+unfolding decodeOf
 returns-2 c = simp (c .before .before .match .keys2, c .or-seven2 .ensures, c .before .pair-ok .ensures)
 
 returns-3 : tie.Need-returns-3
-unfolding decodeOf pickRead
+unfolding decodeOf
 returns-3 c = simp (c .before .before .match .keys3, c .or-seven3 .ensures, c .before .pair-ok2 .ensures)
 
 returns-4 : tie.Need-returns-4
-unfolding decodeOf pickRead
+unfolding decodeOf
 returns-4 c = simp (c .before .before .match .keys4, c .or-seven4 .ensures, c .before .topics-ok .ensures)
 
 returns-5 : tie.Need-returns-5
-unfolding decodeOf pickRead
+unfolding decodeOf
 returns-5 c = simp (c .before .before .match .keys5, c .or-seven5 .ensures, c .before .topics-ok2 .ensures)
 
 returns-6 : tie.Need-returns-6
-unfolding decodeOf pickRead
+unfolding decodeOf
 returns-6 c = simp (c .before .before .match .keys6, c .or-seven6 .ensures, c .before .leave-ok .ensures)
 
 returns-7 : tie.Need-returns-7
-unfolding decodeOf pickRead
+unfolding decodeOf
 returns-7 c = simp (c .before .before .before .match .keys7, c .or-seven7 .ensures, c .before .sets-of .ensures, c .before .before .join-ok .ensures)
 
 returns-8 : tie.Need-returns-8
-unfolding decodeOf pickRead
+unfolding readingOf decodeOf
 returns-8 c = simp (ne-eqb _ _ (c .match .rest .0 .0 .0 .0 .0 .0 .1), ne-eqb _ _ (c .match .rest .0 .0 .0 .0 .0 .1), ne-eqb _ _ (c .match .rest .0 .0 .0 .0 .1), ne-eqb _ _ (c .match .rest .0 .0 .0 .1), ne-eqb _ _ (c .match .rest .0 .0 .1), ne-eqb _ _ (c .match .rest .0 .1), ne-eqb _ _ (c .match .rest .1))
 
 pub decode-spec : {M : Type 1} → statement M

@@ -44,7 +44,9 @@ shared-slice-read-t16 c = search needs
 
 returns : tie.Need-returns
 unfolding fieldsAt
-returns c = simp (c .before .before .before .before .before .before .le4 .ensures, c .before .before .before .before .before .le42 .ensures, c .before .before .before .before .le43 .ensures)
+returns c =
+    let last = c .before .before .before .before in
+    simp (last .before .before .le4 .ensures, last .before .le42 .ensures, last .le43 .ensures)
 
 pub fields-at-spec : {M : Type 1} → statement M
 fields-at-spec =

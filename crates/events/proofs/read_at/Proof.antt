@@ -1,12 +1,12 @@
 use mathlib.Core.Path.{ap, _∙_}
-use Rattle.events.specs.Event.{readAt, pickRead, decodeOf}
+use Rattle.events.specs.Event.{readingOf, readingAt, decodeOf}
 use borrow.Author.Tests.{le-ltb, lt-ltb}
 use borrow.Author.Needs.{needs}
 use Rattle.events.proofs.read_at.Statement.{statement}
 use Rattle.events.proofs.read_at.Tie as tie
 
 returns : tie.Need-returns
-unfolding readAt pickRead
+unfolding readingOf readingAt
 returns c = simp (le-ltb _ _ (c .if1 .taken))
 
 mul-fields-at : tie.Need-mul-fields-at
@@ -19,7 +19,7 @@ decode-requires : tie.Need-decode-requires
 decode-requires c κs = search needs
 
 returns-2 : tie.Need-returns-2
-unfolding readAt pickRead
+unfolding readingAt
 returns-2 c = simp (lt-ltb _ _ (c .before .before .if1 .left)) (c .decode .ensures ∙ ap decodeOf (c .before .fields-at .ensures))
 
 pub read-at-spec : {M : Type 1} → statement M

@@ -1,12 +1,12 @@
 use mathlib.Core.Path.{refl}
 use borrow.Author.Tests.{le-ltb, lt-ltb}
-use Rattle.events.specs.Writing.{writtenAt, pickBytes}
+use Rattle.events.specs.Writing.{writtenAt}
 use borrow.Author.Needs.{needs}
 use Rattle.events.proofs.write_at.Statement.{statement}
 use Rattle.events.proofs.write_at.Tie as tie
 
 returns : tie.Need-returns
-unfolding writtenAt pickBytes
+unfolding writtenAt
 returns c = simp (le-ltb _ _ (c .if1 .taken)) (refl, refl)
 
 mul-put-fields : tie.Need-mul-put-fields
@@ -22,8 +22,10 @@ same-length : tie.Need-same-length
 same-length c = search needs
 
 returns-2 : tie.Need-returns-2
-unfolding writtenAt pickBytes
-returns-2 c = simp (lt-ltb _ _ (c .before .before .before .before .before .if1 .left)) (refl, (cc))
+unfolding writtenAt
+returns-2 c =
+    let begun = c .before .before .before .before .before in
+    simp (lt-ltb _ _ (begun .if1 .left)) (refl, (cc))
 
 pub write-at-spec : {M : Type 1} → statement M
 write-at-spec =

@@ -5,6 +5,7 @@ use lib.ListN.{length}
 use native.Mathlib.Omega.{arith}
 use Rattle.network.specs.Network.{mk}
 use Rattle.floodnet.specs.CodeForward.{table}
+use Rattle.events.specs.ReadingLaws.{read-is}
 use Rattle.engine.specs.Run.{tally, zeroTally, runFrom, runAll}
 use Rattle.engine.specs.RunSound.{reads-fit}
 use Rattle.engine.specs.Going.{Going, going-start, going-room}
@@ -46,7 +47,7 @@ event-at-requires c κs = search needs
 turn-requires : tie.Need-turn-requires Inv-loop μ-loop
 turn-requires c κs =
     let h = head c in
-    (rw (c .event-at .ensures) (reads-fit _ (λ i. h .before .shared-slice-known .given i .fits) _), start h .pre)
+    (rw (read-is _ _ _ (c .event-at .ensures)) (reads-fit _ (λ i. h .before .shared-slice-known .given i .fits) _), start h .pre)
 
 answer-requires : tie.Need-answer-requires Inv-loop μ-loop
 answer-requires c κs = search needs
@@ -55,7 +56,7 @@ returns : tie.Need-returns Inv-loop μ-loop
 unfolding runAll
 returns c =
     let e = c .before .before .before in
-    runs-as (c .answer .ensures) (ran-stop _ _ _ (head e .loop .inv) (test e) (e .event-at .ensures) _ _ (c .before .before .turn .ensures) (c .before .if1 .taken))
+    runs-as (c .answer .ensures) (ran-stop _ _ _ (head e .loop .inv) (test e) (read-is _ _ _ (e .event-at .ensures)) _ _ (c .before .before .turn .ensures) (c .before .if1 .taken))
 
 count-in-requires : tie.Need-count-in-requires Inv-loop μ-loop
 count-in-requires c κs =
@@ -75,7 +76,7 @@ loop-again : tie.Need-loop-again Inv-loop μ-loop
 loop-again c =
     let u = c .before .before .before .before .before in
     let e = u .before in
-    ran-on _ _ _ (head e .loop .inv) (test e) (e .event-at .ensures) _ _ (u .turn .ensures) (c .before .before .before .before .if1 .left) _ (c .count-in .ensures)
+    ran-on _ _ _ (head e .loop .inv) (test e) (read-is _ _ _ (e .event-at .ensures)) _ _ (u .turn .ensures) (c .before .before .before .before .if1 .left) _ (c .count-in .ensures)
 
 answer-requires-2 : tie.Need-answer-requires-2 Inv-loop μ-loop
 answer-requires-2 c κs = search needs

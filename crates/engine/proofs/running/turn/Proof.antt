@@ -1,9 +1,31 @@
 -- `engine::running::turn` meets its contract. Assumes nothing.
 use borrow.Author.Needs.{needs}
+use mathlib.Core.List.{[], _∷_}
+use mathlib.Core.Logic.{_⊎_, inl, inr}
+use mathlib.Core.Path.{_≡_, ap, subst, _∙_}
+use Prim.Native.Nat.{ℕ}
+use native.Mathlib.Omega.{arith}
+use types.Run.{OneOf}
+use denote.Enum.Declared.{tagOf}
 use Rattle.network.specs.Network.{bare}
-use Rattle.engine.specs.TurnLaws.{taken-fits, turn-taken, turn-end, turn-refused}
+use Rattle.events.specs.declared.Event.{Event}
+use Rattle.events.specs.declared.Read.{Read}
+use Rattle.events.specs.declared.Read.the-variants.{Taken}
+use Rattle.events.specs.declared.Reading.{Reading}
+use Rattle.events.proofs.Read as R
+use Rattle.engine.specs.Run.{refusedBy}
+use Rattle.engine.specs.TurnLaws.{taken-fits, turn-taken, turn-none}
 use Rattle.engine.proofs.running.turn.Statement.{statement}
 use Rattle.engine.proofs.running.turn.Tie as tie
+
+-- in the arm of the later cases no event was taken: an event is the first case
+not-taken : {read : Read} → OneOf (1 ∷ 2 ∷ 3 ∷ []) (tagOf R.the-type read) → (e : Event) → read ≡ Taken e → ⊥
+not-taken k e h = first (subst (λ (r : Read). OneOf (1 ∷ 2 ∷ 3 ∷ []) (tagOf R.the-type r)) h k)
+  where
+    first : (_≡_ {A = ℕ} 0 1) ⊎ ((_≡_ {A = ℕ} 0 2) ⊎ (_≡_ {A = ℕ} 0 3)) → ⊥
+    first (inl z) = omega arith
+    first (inr (inl z)) = omega arith
+    first (inr (inr z)) = omega arith
 
 enum-known-read : tie.Need-enum-known-read
 enum-known-read c = search needs
@@ -13,17 +35,11 @@ step-requires c κs =
     let d = c .before .before .before .before .before .before .before .before in
     (taken-fits (d .read .given .1) (d .before .before .pre .0), d .before .before .pre .1)
 
-enum-told : tie.Need-enum-told
-enum-told c = search needs
+answered-requires : tie.Need-answered-requires
+answered-requires c κs = search needs
 
 refused-requires : tie.Need-refused-requires
 refused-requires c κs = search needs
-
-enum-known-read-2 : tie.Need-enum-known-read-2
-enum-known-read-2 c = search needs
-
-refused-requires-2 : tie.Need-refused-requires-2
-refused-requires-2 c κs = search needs
 
 returns : tie.Need-returns
 returns c =
@@ -32,12 +48,10 @@ returns c =
     turn-taken _ _ _ _ (d .read .given .1) (s .0 bare, (s .1 .0 bare, s .1 .1))
 
 returns-2 : tie.Need-returns-2
-returns-2 c = turn-end _ _ _ (c .before .enum-told .given .1) (c .refused .ensures)
-
-returns-3 : tie.Need-returns-3
-returns-3 c = turn-refused _ _ _ (c .before .before .read2 .given .1) (c .refused2 .ensures)
+returns-2 c =
+    let m = c .before .before in
+    turn-none _ _ _ (m .before .args .read) (not-taken (m .match .keys2))
+    (c .refused .ensures ∙ ap (λ (x : Reading). refusedBy (x .number)) (c .before .answered .ensures))
 
 pub turn-spec : {M : Type 1} → statement M
-turn-spec =
-    tie.close
-    (tie.spec enum-known-read step-requires enum-told refused-requires enum-known-read-2 refused-requires-2 returns returns-2 returns-3)
+turn-spec = tie.close (tie.spec enum-known-read step-requires answered-requires refused-requires returns returns-2)

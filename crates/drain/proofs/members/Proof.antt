@@ -9,7 +9,7 @@ size64-requires : tie.Need-size64-requires
 size64-requires c κs = search needs
 
 returns : tie.Need-returns
-returns c = (c .size64 .ensures .0 ∙ size-count 64 _ (search needs), c .size64 .ensures .1)
+returns c = (c .size64 .ensures .0 ∙ size-count 64 _ (search needs), c .size64 .ensures .1, search needs)
 
 pub members-spec : {M : Type 1} → statement M
 members-spec = tie.close (tie.spec size64-requires returns)

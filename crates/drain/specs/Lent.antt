@@ -3,30 +3,27 @@
 use mathlib.Core.Path.{_≡_}
 use mathlib.Core.List.{List}
 use Prim.Native.Nat.{ℕ}
-use Rattle.flooding.specs.Machine.{Pair, run}
+use Rattle.flooding.specs.Machine.{Pair, Drained, run}
 use Rattle.network.specs.declared.Network.{Network}
-use Rattle.network.specs.declared.Table.{Table}
-use Rattle.network.specs.Network.{Rows}
-use Rattle.network.specs.Sound.{Sound}
 use Rattle.floodnet.specs.View.{fwd}
 use Rattle.floodnet.specs.CodeForward.{table, withMessages}
 use Rattle.drain.specs.declared.Drains.{Drains}
-use Rattle.drain.specs.Drain.{drainOf, quietOf}
+use Rattle.drain.specs.Drain.{drainWithin, quietOf}
 
 -- a list of forwards leads from pending and seen messages e, f to e′, f′, by the known subscribers g and the topics ts, in every
 -- network and table that have them
 abbrev pub Leads : (g ts e f : List ℕ) → List Pair → (e′ f′ : List ℕ) → Type 0
 Leads g ts e f l e′ f′ = (n : Network) (os : List ℕ) → withMessages n e′ f′ g ≡ run (fwd (table ts os)) (withMessages n e f g) l
 
--- r, and the network at the end, are what the drain of n answers
-pub record Answers (b : Table) (budget : ℕ) (n last : Network) (r : Drains) : Type 0 where
-  pub end : last ≡ drainOf b budget n .end
-  pub forwards : r .forwards ≡ drainOf b budget n .forwards
-  pub rounds : r .rounds ≡ drainOf b budget n .rounds
-  pub quiet : r .quiet ≡ quietOf (drainOf b budget n .end)
+-- r, and the network at the end, are what a drain d answers
+pub record Answers (d : Drained Network) (last : Network) (r : Drains) : Type 0 where
+  pub end : last ≡ d .end
+  pub forwards : r .forwards ≡ d .forwards
+  pub rounds : r .rounds ≡ d .rounds
+  pub quiet : r .quiet ≡ quietOf (d .end)
 
--- so it is of every sound network that has the lent arrays, with every table of accepted rows that has the topics
+-- so it is of the drain of every network that has the lent arrays, sound or not, with every table that has the topics; of a sound one it is
+-- `drainOf` (`drains-sound`, specs/LentLaws.antt), and no other answer and arrays will do (`drains-settle`, there)
 abbrev pub DrainsTo : (g ts e f : List ℕ) → ℕ → (e′ f′ : List ℕ) → Drains → Type 0
 DrainsTo g ts e f budget e′ f′ r =
-    (n : Network) (os : List ℕ) → Sound (withMessages n e f g) → Rows (table ts os)
-    → Answers (table ts os) budget (withMessages n e f g) (withMessages n e′ f′ g) r
+    (n : Network) (os : List ℕ) → Answers (drainWithin (table ts os) budget (withMessages n e f g)) (withMessages n e′ f′ g) r

@@ -1,5 +1,6 @@
 pub mod Drain
 pub mod Reach
+pub mod ReachWords
 pub mod ReachLaws
 pub mod Pairs
 pub mod AtOnce

@@ -2,96 +2,32 @@
 -- Assumes nothing.
 use mathlib.Core.Path.{_≡_, refl, sym, ap, _∙_}
 use mathlib.Core.Logic.{_⊎_, inl, inr, _↔_}
-use mathlib.Core.Bool.{Bool, true, false}
-use mathlib.Core.List.{List, [], _∷_}
+use mathlib.Core.Bool.{true, false}
+use mathlib.Core.List.{List}
 use Prim.Native.Nat.{ℕ, suc, _+_, _≤_, _<_}
 use native.Mathlib.Omega.{arith}
-use lib.ListN.{length}
-use Rattle.sets.specs.Bools.{and-both, and-yes}
+use lib.ListN.{length, take}
 use Rattle.flooding.specs.Network as flooding
-use Rattle.flooding.specs.Network.{Chain, holds, link-to}
-use Rattle.flooding.specs.Counts.{unseenPairs}
-use Rattle.flooding.specs.Machine.{Pair, pair, run, Accepts}
+use Rattle.flooding.specs.Network.{holds}
+use Rattle.flooding.specs.Machine.{run, due, round, rounds}
 use Rattle.flooding.specs.Page.{Floods, Drains, Finishes}
-use Rattle.flooding.proofs.Floods.{floods, run-ok}
+use Rattle.flooding.proofs.Floods.{held-or-linked, floods, run-ok}
 use Rattle.flooding.proofs.Drain.{drain-law, drain-finishes}
+use Rattle.flooding.proofs.Within.{within}
 use Rattle.network.specs.declared.Peer.{Peer}
 use Rattle.network.specs.declared.Message.{Message}
 use Rattle.network.specs.declared.Network.{Network}
 use Rattle.network.specs.declared.Table.{Table}
-use Rattle.network.specs.Network.{peer, message, present, pending, saw, subscribed, linked, topicOf, Rows}
+use Rattle.network.specs.Network.{peer, present, pending, saw, Rows}
 use Rattle.network.specs.Sound.{Sound}
 use Rattle.network.specs.SoundLaws.{pending-present}
 use Rattle.floodnet.specs.Forward.{forwarded}
-use Rattle.floodnet.specs.Refusals.{need, refusalForward}
+use Rattle.floodnet.specs.Refusals.{refusalForward}
 use Rattle.floodnet.specs.View.{view, fwd}
-use Rattle.floodnet.specs.ViewLaws.{view-linked, network-machine}
-use Rattle.drain.specs.Drain.{roundsOf, drainOf}
-use Rattle.drain.specs.Reach.{Forward, by, after, Accepted, unseen, Quiet, Reaches, holder, onward, Shortest, Reach}
-
--- ---- forwards by their numbers
-
--- the pairs of flooding that a list of forwards is
-abbrev pub numbers : List Forward → List Pair
-numbers [] = []
-numbers (by p m ∷ l) = pair (p .0) (m .0) ∷ numbers l
-
-pub numbers-length : (l : List Forward) → length (numbers l) ≡ length l
-numbers-length [] = refl
-numbers-length (by p m ∷ l) = ap suc (numbers-length l)
-
--- A forward is refused unless its message is pending there, and in a sound network accepted if it is.
-pub accepted-pending : (n : Network) (p : Peer) (m : Message) → refusalForward n p m ≡ 0 → pending n p m ≡ true
-unfolding refusalForward need
-accepted-pending n p m = go (present n p) (pending n p m)
-  where
-    go : (x y : Bool) → need x 8 (need y 13 0) ≡ 0 → y ≡ true
-    go x true h = refl
-    go true false h = absurd (omega arith)
-    go false false h = absurd (omega arith)
-
-pub pending-accepted : {n : Network} → Sound n → (p : Peer) (m : Message) → pending n p m ≡ true → refusalForward n p m ≡ 0
-unfolding refusalForward need
-pending-accepted s p m h = rw (pending-present s p m h, h)
-
--- The network after them, and their acceptance, are those of flooding.
-pub after-run : (b : Table) (n : Network) (l : List Forward) → after b n l ≡ run (fwd b) n (numbers l)
-unfolding after run fwd
-after-run b n [] = refl
-after-run b n (by p m ∷ l) = after-run b (forwarded n b p m) l
-
-pub accepts : (b : Table) (n : Network) (l : List Forward) → Accepted b n l → Accepts (view b) (fwd b) n (numbers l)
-unfolding view fwd
-accepts b n [] a = tt
-accepts b n (by p m ∷ l) a = (accepted-pending n p m (a .0), accepts b (forwarded n b p m) l (a .1))
-
--- ---- what is seen of a network
-
-pub still : (b : Table) (n : Network) → Quiet n → flooding.Quiet (view b n)
-unfolding view
-still b n q p m = q (peer p) (message m)
-
-pub quiet : (b : Table) (n : Network) → flooding.Quiet (view b n) → Quiet n
-unfolding view
-quiet b n q p m = q (p .0) (m .0)
-
-pub unseen-pairs : (b : Table) (n : Network) → unseen n ≡ unseenPairs 32 64 (view b n)
-unfolding unseen unseenPairs view
-unseen-pairs b n = refl
-
--- ---- chains: in a sound network p knows q to subscribe where q is its neighbour and subscribed
-
-pub to-chain : {b : Table} {n : Network} {m : Message} {q : Peer} {d : ℕ} → Sound n → Rows b → Reaches b n m q d → Chain (view b n) (m .0) (q .0) d
-unfolding view
-to-chain s rows (holder h) = holds h
-to-chain {m = m} s rows (onward {p = p} {q = q} c k u z) = link-to (to-chain s rows c) (view-linked s rows (m .0) (p .0) (q .0) ∙ and-both k u) z
-
-pub of-chain : {b : Table} {n : Network} {m q d : ℕ} → Sound n → Rows b → Chain (view b n) m q d → Reaches b n (message m) (peer q) d
-unfolding view
-of-chain s rows (holds h) = holder h
-of-chain {b} {n} {m} s rows (link-to {p = p} {q = q} c k z) =
-    let x = and-yes (linked n (peer p) (peer q)) (subscribed n (peer q) (topicOf b (message m))) (sym (view-linked s rows m p q) ∙ k) in
-    onward (of-chain s rows c) (x .0) (x .1) z
+use Rattle.floodnet.specs.ViewLaws.{network-machine}
+use Rattle.drain.specs.Drain.{roundsOf, drainOf, quietOf}
+use Rattle.drain.specs.Reach.{Forward, after, Accepted, unseen, Quiet, Reaches, holder, onward, Shortest, dueOf, Reach}
+use Rattle.drain.specs.ReachWords.{numbers, numbers-length, accepted-pending, pending-accepted, after-run, accepts, named, named-length, after-named, accepted-named, due-length, after-due, after-part, still, quiet, quiet-words, unseen-pairs, to-chain, of-chain}
 
 module _ {b : Table} {n : Network} (s : Sound n) (rows : Rows b) where
   to-shortest : {m : Message} {q : Peer} {d : ℕ} → Shortest b n m q d → flooding.Shortest (view b n) (m .0) (q .0) d
@@ -128,22 +64,29 @@ module _ {b : Table} {n : Network} (s : Sound n) (rows : Rows b) where
     settled : Quiet (after b n l) → flooding.Quiet (view b (run (fwd b) n (numbers l)))
     settled q = still b (run (fwd b) n (numbers l)) (rw (after-run b n l) at q)
 
-    seen : Quiet (after b n l) → (q : Peer) (m : Message)
+    rests : (m : Message) → ((p : Peer) → pending (after b n l) p m ≡ false) → (p : ℕ) → (view b (run (fwd b) n (numbers l))) .pending p (m .0) ≡ false
+    unfolding view
+    rests m still p = rw (after-run b n l) at (still (peer p))
+
+    seen : (m : Message) → ((p : Peer) → pending (after b n l) p m ≡ false) → (q : Peer)
         → (saw (after b n l) q m ≡ true) ↔ ((saw n q m ≡ true) ⊎ ((pending n q m ≡ true) ⊎ ((d : ℕ) × Reaches b n m q (suc d))))
     unfolding view
-    seen still q m =
-        let x = page .seen-at-end (numbers l) (accepts b n l a) (settled still) (q .0) (m .0) in
+    seen m still q =
+        let x = page .seen-at-rest (numbers l) (accepts b n l a) (m .0) (rests m still) (q .0) in
         rw (after-run b n l) (λ h. ends (x .0 h), λ o. x .1 (starts o))
       where
-        ends : (saw n q m ≡ true) ⊎ ((pending n q m ≡ true) ⊎ flooding.Linked (view b n) (m .0) (q .0)) → (saw n q m ≡ true) ⊎ ((pending n q m ≡ true) ⊎ ((d : ℕ) × Reaches b n m q (suc d)))
+        ends : (saw n q m ≡ true) ⊎ flooding.Reached (view b n) (m .0) (q .0) → (saw n q m ≡ true) ⊎ ((pending n q m ≡ true) ⊎ ((d : ℕ) × Reaches b n m q (suc d)))
         ends (inl h) = inl h
-        ends (inr (inl h)) = inr (inl h)
-        ends (inr (inr c)) = inr (inr (c .0, of-chain s rows (c .1)))
+        ends (inr c) = inr (first (held-or-linked .0 c))
+          where
+            first : (pending n q m ≡ true) ⊎ flooding.Linked (view b n) (m .0) (q .0) → (pending n q m ≡ true) ⊎ ((d : ℕ) × Reaches b n m q (suc d))
+            first (inl h) = inl h
+            first (inr c) = inr (c .0, of-chain s rows (c .1))
 
-        starts : (saw n q m ≡ true) ⊎ ((pending n q m ≡ true) ⊎ ((d : ℕ) × Reaches b n m q (suc d))) → (saw n q m ≡ true) ⊎ ((pending n q m ≡ true) ⊎ flooding.Linked (view b n) (m .0) (q .0))
+        starts : (saw n q m ≡ true) ⊎ ((pending n q m ≡ true) ⊎ ((d : ℕ) × Reaches b n m q (suc d))) → (saw n q m ≡ true) ⊎ flooding.Reached (view b n) (m .0) (q .0)
         starts (inl h) = inl h
-        starts (inr (inl h)) = inr (inl h)
-        starts (inr (inr c)) = inr (inr (c .0, to-chain s rows (c .1)))
+        starts (inr (inl h)) = inr (0, holds h)
+        starts (inr (inr c)) = inr (suc (c .0), to-chain s rows (c .1))
 
   same : (l r : List Forward) → Accepted b n l → Accepted b n r → Quiet (after b n l) → Quiet (after b n r) → after b n l ≡ after b n r
   same l r a c q t =
@@ -169,6 +112,55 @@ module _ {b : Table} {n : Network} (s : Sound n) (rows : Rows b) where
   calm : Quiet (roundsOf b 32 n)
   unfolding roundsOf
   calm = quiet b _ (page .few-rounds)
+
+  waits : (m : Message) (q : Peer) (k : ℕ) → (pending (roundsOf b k n) q m ≡ true) ↔ Shortest b n m q k
+  unfolding roundsOf view
+  waits m q k =
+      let x = page .pending-by-rounds (m .0) (q .0) k in
+      (λ h. of-shortest (x .0 h), λ h. x .1 (to-shortest h))
+
+  first-round : roundsOf b 0 n ≡ n
+  unfolding roundsOf rounds
+  first-round = refl
+
+  next-round : (k : ℕ) → roundsOf b (suc k) n ≡ after b (roundsOf b k n) (dueOf (roundsOf b k n))
+  unfolding roundsOf rounds round
+  next-round k = sym (after-due b (rounds (view b) (fwd b) 32 64 k n))
+
+  -- ---- the drain
+
+  path : (budget : ℕ) → (l : List Forward) × Accepted b n l × (drainOf b budget n .end ≡ after b n l) × (drainOf b budget n .forwards ≡ length l)
+  path budget =
+      let x = drains budget in
+      (named (x .path), accepted-named s rows (x .path) (x .accepted), x .ends ∙ sym (after-named b n (x .path)), x .made ∙ sym (named-length (x .path)))
+
+  -- A drain ends in a sound network.
+  pub end-sound : (budget : ℕ) → Sound (drainOf b budget n .end)
+  end-sound budget =
+      let x = drains budget in
+      rw (x .ends) (run-ok (view b) (fwd b) 32 64 Sound (network-machine rows) n (x .path) s (x .accepted))
+
+  part-of : (budget : ℕ)
+      → (let last = roundsOf b (drainOf b budget n .rounds) n in
+      (part : ℕ) × (drainOf b budget n .end ≡ after b last (take part (dueOf last))) × ((part < length (dueOf last)) ⊎ Quiet last))
+  unfolding roundsOf
+  part-of budget =
+      let x = drains budget in
+      (x .part, x .whole ∙ sym (after-part b _ (x .part)), first (x .part) (x .unfinished))
+    where
+      last : Network
+      last = roundsOf b (drainOf b budget n .rounds) n
+
+      first : (part : ℕ) → (part < length (due 32 64 (view b last))) ⊎ flooding.Quiet (view b last) → (part < length (dueOf last)) ⊎ Quiet last
+      first part (inl h) = inl (rw (due-length b last) h)
+      first part (inr q) = inr (quiet b last q)
+
+  by-budget : (budget : ℕ) (m : Message) (q : Peer) (d : ℕ) → Shortest b n m q d
+      → (d < drainOf b budget n .rounds → saw (drainOf b budget n .end) q m ≡ true) × (drainOf b budget n .rounds < d → saw (drainOf b budget n .end) q m ≡ false)
+  unfolding view
+  by-budget budget m q d h =
+      let x = within (view b) (fwd b) 32 64 Sound (network-machine rows) n s budget 32 (drainOf b budget n) (drains budget) in
+      (x .nearer (m .0) (q .0) d (to-shortest h), x .farther (m .0) (q .0) d (to-shortest h))
 
   needed : (budget k : ℕ) → k < drainOf b budget n .rounds → Quiet (roundsOf b k n) → ⊥
   unfolding roundsOf
@@ -206,15 +198,25 @@ module _ {b : Table} {n : Network} (s : Sound n) (rows : Rows b) where
         stays-sound = sound-after;
         each-lowers = lowers;
         counts = counted;
-        seen-at-end = seen;
+        seen-at-end = λ l a still q m. seen l a m (λ p. still p m) q;
+        seen-at-rest = seen;
+        goes-on = λ p m. (accepted-pending n p m, pending-accepted s p m);
         reached-present = λ m q d c. there c;
         same-end = same;
         same-count = equally;
         by-rounds = turns;
         holders = λ m q h. record { chain = holder h; least = λ (k : ℕ) (l : k < 0) c. omega arith };
         nearest = near;
+        pending-after = waits;
+        no-round = first-round;
+        one-more-round = next-round;
         few-forwards = λ l a. rw (sym (numbers-length l)) (page .few-forwards (numbers l) (accepts b n l a));
         few-rounds = calm;
+        drain-path = path;
+        drain-sound = end-sound;
+        drain-course = part-of;
+        drain-seen = by-budget;
+        quiet-means = λ budget. quiet-words (end-sound budget .shaped);
         drain-quiet = λ budget h. quiet b _ (drain-done budget h .quiet);
         drain-rounds = full;
         drain-needed = needed;

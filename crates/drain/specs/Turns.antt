@@ -6,12 +6,11 @@ use Prim.Native.Nat.{ℕ, zero, suc, _+_, _-_, _≤_, _<_}
 use native.Mathlib.Nat.{sub-zero}
 use native.Mathlib.Numerals.{add-one}
 use native.Mathlib.Omega.{arith}
-use native.Mathlib.Decide.{ℕ-discrete}
 use lib.ListN.{length, getD, take, length-take, length-append}
 use lib.Seq.{take-all, take-nil}
 use Rattle.flooding.specs.Network.{Net}
-use Rattle.flooding.specs.Machine.{Pair, pair, run, due, round, Drained, stopped, drain}
-use Rattle.flooding.specs.Loop.{drain-stop, drain-round, drain-cut}
+use Rattle.flooding.specs.Machine.{Pair, run, due, round, Drained, stopped, drain}
+use Rattle.flooding.specs.Loop.{run-append, drain-none, drain-stop, drain-round, drain-cut}
 use Rattle.drain.specs.Pairs.{pairsOf, listOf}
 
 -- The first n of two lists: as many of the first as there are, and of the second what n leaves.
@@ -21,12 +20,6 @@ take-both (suc n) [] r = rw (sub-zero (suc n))
 take-both (suc n) (x ∷ l) r =
     let e : suc n - suc (length (take n l)) ≡ n - length (take n l) = omega arith in
     rw (e, take-both n l r)
-
--- One list of forwards, and then another.
-run-append : {S : Type 0} (fwd : S → ℕ → ℕ → S) (s : S) (l r : List Pair) → run fwd s (l ++ r) ≡ run fwd (run fwd s l) r
-unfolding run
-run-append fwd s [] r = refl
-run-append fwd s (pair p m ∷ l) r = run-append fwd (fwd s p m) l r
 
 -- ---- the peers of a round, while the budget lasts
 
@@ -71,15 +64,6 @@ module _ {S : Type 0} (view : S → Net) (fwd : S → ℕ → ℕ → S) (N M : 
   -- a drain that has made `made` forwards and k rounds before it
   abbrev pub since : ℕ → ℕ → Drained S → Drained S
   since made k r = record { end = r .end; forwards = made + r .forwards; rounds = k + r .rounds }
-
-  -- A budget of nothing drains nothing.
-  drain-none : (fuel : ℕ) (s : S) → drain view fwd N M (suc fuel) 0 s ≡ stopped s
-  unfolding run
-  drain-none fuel s = go (ℕ-discrete (length (due N M (view s))) 0)
-    where
-      go : Dec (length (due N M (view s)) ≡ 0) → drain view fwd N M (suc fuel) 0 s ≡ stopped s
-      go (yes e) = drain-stop view fwd N M fuel 0 s e
-      go (no e) = drain-cut view fwd N M fuel 0 s (omega arith)
 
   module _ (budget : ℕ) (start : S) where
     -- What the loop over the rounds keeps: whatever fuel is given, the drain from the start is what was made and the drain from here.
@@ -138,7 +122,7 @@ module _ {S : Type 0} (view : S → Net) (fwd : S → ℕ → ℕ → S) (N M : 
                 let y : budget - (made + j) ≡ 0 = omega (arith, spent) in
                 v .rest fuel ∙ ap (since made k) (drain-cut view fwd N M fuel (budget - made) now short)
                 ∙ answers (run fwd now (take (budget - made) l)) (made + (budget - made)) (made + j + 0) (k + 0) (k + 0) (omega (arith, spent)) refl
-                ∙ sym (ap₂ (λ (x : ℕ) (t : S). since (made + j) k (drain view fwd N M (suc fuel) x t)) y e ∙ ap (since (made + j) k) (drain-none fuel _));
+                ∙ sym (ap₂ (λ (x : ℕ) (t : S). since (made + j) k (drain view fwd N M (suc fuel) x t)) y e ∙ ap (since (made + j) k) (drain-none view fwd N M (suc fuel) _));
           }
         where
           l : List Pair
@@ -159,4 +143,4 @@ module _ {S : Type 0} (view : S → Net) (fwd : S → ℕ → ℕ → S) (N M : 
         over (inl e) = drain-stop view fwd N M fuel (budget - made) now e
         over (inr e) =
             let y : budget - made ≡ 0 = omega arith in
-            rw y (drain-none fuel now)
+            rw y (drain-none view fwd N M (suc fuel) now)

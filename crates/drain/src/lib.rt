@@ -1,15 +1,16 @@
 // The drain by rounds, and demand 3 over the network (document 01, "Drain by rounds"; the minutes, demand 3).
 //
 // Read specs/Reach.antt: the client's page, demand 3 sentence by sentence over a sound network and its table. specs/Drain.antt
-// says what a drain answers; specs/ReachLaws.antt proves the page. The functions here make the drain on the arrays that a caller
+// says what a drain answers; specs/ReachLaws.antt proves the page, specs/ReachWords.antt has its words in flooding's. The functions here make the drain on the arrays that a caller
 // lends; specs/Lent.antt has the words of their contracts, specs/Pairs.antt and specs/Turns.antt what their loops keep. specs/AtOnce.antt:
 // a peer's messages forwarded at once are its forwards one by one.
 ghost use mathlib.Core.Path.{_≡_};
 ghost use Prim.Native.Nat.{ℕ, _^_, _<_, _≤_};
+ghost use lib.Dec.{eqb};
 ghost use lib.ListN.{length, getD, take};
 ghost use Rattle.sets.specs.Set.{has, count};
 ghost use Rattle.lists.specs.Edit.{edit};
-ghost use Rattle.drain.specs.Pairs.{pairsOf, listOf, waitingOf};
+ghost use Rattle.drain.specs.Pairs.{pairsOf, listOf, waitingOf, emptyWords};
 ghost use Rattle.drain.specs.AtOnce.{ByTopic, gives, AtOnce};
 ghost use Rattle.drain.specs.Lent.{Leads, DrainsTo};
 use network::Message;
@@ -22,9 +23,10 @@ pub struct Drains {
     pub quiet: bool,
 }
 
-// How many messages a word has. Most words of most drains are empty, and a count of ones takes a dozen steps.
+// How many messages a word has; and a word fits, which a caller that has read it from an array is told here. Most words of most drains
+// are empty, and a count of ones takes a dozen steps.
 fn members(w: u64) -> u32
-    ensures { λ r. ⌜ (r ≡ count 64 (has w)) × (r ≤ 64) ⌝ }
+    ensures { λ r. ⌜ (r ≡ count 64 (has w)) × (r ≤ 64) × (w < 2 ^ 64) ⌝ }
 {
     if w == 0 {
         return 0;
@@ -35,6 +37,7 @@ fn members(w: u64) -> u32
 // How many pairs are pending.
 fn waiting(pending: &[u64; 32]) -> u32
     ensures { λ r. ⌜ r ≡ waitingOf (now (pending .entry)) ⌝ }
+    ensures { λ r. ⌜ eqb r 0 ≡ emptyWords (now (pending .entry)) ⌝ }
 {
     let mut total: u32 = 0;
     for p in 0..32 {

@@ -16,6 +16,7 @@ use Rattle.network.specs.Rows.{listOf}
 use Rattle.drain.specs.declared.Drains.{Drains}
 use Rattle.floodnet.specs.CodeForward.{withMessages}
 use Rattle.drain.specs.Lent.{DrainsTo}
+use Rattle.drain.specs.LentLaws.{drains-sound}
 use Rattle.engine.specs.declared.Begun.{Begun}
 use Rattle.engine.specs.declared.Drained.{Drained}
 use Rattle.engine.specs.Start.{refusedAt, beginOf}
@@ -63,5 +64,5 @@ pub drain-done : {g : Begun} {e f : List ℕ} {r : Drains} (s t now-s : List ℕ
     → {x : Drained} → x ≡ drained 0 0 (r .forwards) (r .rounds) (r .quiet) → Ended s t budget x now-s
 unfolding drainEndOf
 drain-done {g} s t now-s budget h k z d w y =
-    let a = d (g .network) (g .table .origins) (rw k (begun-sound s t h)) (rw k (begun-rows s t)) in
+    let a = drains-sound budget d (g .network) (g .table .origins) (rw k (begun-sound s t h)) (rw k (begun-rows s t)) in
     (y ∙ rw (← k, z, a .forwards, a .rounds, a .quiet), rw (← k, z, ← (a .end)) w)

@@ -1,22 +1,19 @@
--- DEMAND 3 FOR THE ENTRY POINT: the client's page (the crate drain's specs/Reach.antt) holds of what it drains, and its answer says what the page
--- says of a drain. Assumes nothing.
+-- DEMAND 3 FOR THE DRAIN AS AN ENTRY POINT: the client's page (the crate drain's specs/Reach.antt, which opens with a legend) holds of what it
+-- drains, and its answer and its bytes are what the page says of a drain. Assumes nothing.
 use mathlib.Core.Path.{_≡_}
+use mathlib.Core.Logic.{_↔_}
 use mathlib.Core.Bool.{true}
 use mathlib.Core.List.{List}
 use Prim.Native.Nat.{ℕ, _≤_}
-use Rattle.flooding.proofs.Floods.{run-ok}
 use Rattle.endian.specs.Le.{Bytes}
 use Rattle.network.specs.declared.Network.{Network}
 use Rattle.network.specs.declared.Table.{Table}
 use Rattle.network.specs.State.{bytesOf, opened, openOf}
 use Rattle.network.specs.Sound.{Sound}
 use Rattle.network.specs.Trips.{write-read}
-use Rattle.floodnet.specs.View.{view, fwd}
-use Rattle.floodnet.specs.ViewLaws.{network-machine}
 use Rattle.drain.specs.Drain.{drainOf, quietOf}
-use Rattle.drain.specs.DrainLaws.{quiet-words}
-use Rattle.drain.specs.Reach.{Reach}
-use Rattle.drain.specs.ReachLaws.{drains, reach}
+use Rattle.drain.specs.Reach.{Quiet, Reach}
+use Rattle.drain.specs.ReachLaws.{reach}
 use Rattle.engine.specs.Start.{beginOf}
 use Rattle.engine.specs.Draining.{drained, drainEndOf}
 use Rattle.engine.specs.DrainingLaws.{begun-rows, begun-sound}
@@ -31,6 +28,8 @@ pub record DrainPage (s t : List ℕ) (b : Table) (n : Network) : Type 0 where
   -- the state that it leaves is sound, and read as the drain's end
   pub sound : (budget : ℕ) → Sound (drainOf b budget n .end)
   pub reads : (budget : ℕ) → openOf (drainEndOf s t budget .state) ≡ opened 0 0 (drainOf b budget n .end)
+  -- "whether nothing is pending"
+  pub quiet-means : (budget : ℕ) → (drainEndOf s t budget .answer .quiet ≡ true) ↔ Quiet (drainOf b budget n .end)
   -- "At most 2,048 forwards [..] are ever needed": with such a budget it answers that nothing is pending
   pub quiet : (budget : ℕ) → 2048 ≤ budget → drainEndOf s t budget .answer .quiet ≡ true
 
@@ -47,18 +46,8 @@ module _ (s t : List ℕ) (h : Bytes s) where
         page = begun-reach;
         answers = λ budget. rw z;
         leaves = λ budget. rw z;
-        sound = ends;
-        reads = λ budget. rw z (write-read (ends budget));
-        quiet = λ budget l. rw z (quiet-words (ends budget .shaped) .1 (begun-reach .drain-quiet budget l));
+        sound = begun-reach .drain-sound;
+        reads = λ budget. rw z (write-read (begun-reach .drain-sound budget));
+        quiet-means = λ budget. rw z (begun-reach .quiet-means budget);
+        quiet = λ budget l. rw z (begun-reach .quiet-means budget .1 (begun-reach .drain-quiet budget l));
       }
-    where
-      b : Table
-      b = beginOf s t 0 .table
-
-      n : Network
-      n = beginOf s t 0 .network
-
-      ends : (budget : ℕ) → Sound (drainOf b budget n .end)
-      ends budget =
-          let x = drains (begun-sound s t h) (begun-rows s t) budget in
-          rw (x .ends) (run-ok (view b) (fwd b) 32 64 Sound (network-machine (begun-rows s t)) n (x .path) (begun-sound s t h) (x .accepted))

@@ -21,4 +21,6 @@ pub mod ForwardAlone
 pub mod Imaging
 pub mod ImagingLaws
 pub mod ForwardRun
+pub mod ReachPage
+pub mod ReachPageLaws
 pub mod RunImages

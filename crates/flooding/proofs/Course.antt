@@ -7,11 +7,12 @@ use Prim.Native.Nat.{ℕ, zero, suc, _≤_, _<_}
 use native.Mathlib.Omega.{arith}
 use lib.ListN.{length, length-append}
 use Rattle.sets.specs.Bools.{clash, or-yes}
-use Rattle.flooding.specs.Network.{Net, Sound, Quiet, Reached, Shortest}
+use Rattle.flooding.specs.Network.{Net, Sound, forward, Quiet, Reached, Shortest}
 use Rattle.flooding.specs.Counts.{unseenPairs}
-use Rattle.flooding.specs.Machine.{Pair, run, row, todo, round, rounds}
-use Rattle.flooding.proofs.Run.{after, Accepted, same-end, chain-unseen}
-use Rattle.flooding.proofs.Round.{netRounds, after-append, accepted-append, todo-accepted, sound-after, sound-rounds, round-seen}
+use Rattle.flooding.specs.Machine.{Pair, run, itself, row, todo, round, rounds}
+use Rattle.flooding.specs.Loop.{run-append}
+use Rattle.flooding.proofs.Run.{after, Accepted, accepts-append, same-end, chain-unseen}
+use Rattle.flooding.proofs.Round.{netRounds, todo-accepted, sound-after, sound-rounds, round-seen}
 use Rattle.flooding.proofs.Levels.{level}
 use Rattle.flooding.proofs.Count.{run-counts, rounds-quiet, rounds-lower, unseenOf-pos, unseenOf-bound}
 
@@ -25,20 +26,20 @@ module _ (N M : ℕ) where
   pub course-after : (k : ℕ) (s : Net) → after s (course k s) ≡ netRounds N M k s
   unfolding course rounds round run
   course-after zero s = refl
-  course-after (suc k) s = after-append s (course k s) _ ∙ rw (course-after k s)
+  course-after (suc k) s = run-append forward s (course k s) _ ∙ rw (course-after k s)
 
   pub course-accepted : (k : ℕ) (s : Net) → Accepted s (course k s)
   unfolding course
   course-accepted zero s = tt
-  course-accepted (suc k) s = accepted-append s (course k s) _ (course-accepted k s) (rw (course-after k s) (todo-accepted M (netRounds N M k s) N))
+  course-accepted (suc k) s = accepts-append itself forward s (course k s) _ (course-accepted k s) (rw (course-after k s) (todo-accepted M (netRounds N M k s) N))
 
   -- No list of accepted forwards is longer than one that ends with nothing pending.
   pub no-longer : (s : Net) (l r : List Pair) → Sound N M s → Accepted s l → Accepted s r → Quiet (after s r) → length l ≤ length r
   no-longer s l r ok a b calm =
       let t : Net = after s l in
       let c : List Pair = course N t in
-      let e : after s (l ++ c) ≡ netRounds N M N t = after-append s l c ∙ course-after N t in
-      let d : Accepted s (l ++ c) = accepted-append s l c a (course-accepted N t) in
+      let e : after s (l ++ c) ≡ netRounds N M N t = run-append forward s l c ∙ course-after N t in
+      let d : Accepted s (l ++ c) = accepts-append itself forward s l c a (course-accepted N t) in
       let same : after s (l ++ c) ≡ after s r = same-end s (l ++ c) r d b (rw e (rounds-quiet N M t (sound-after s l ok a))) calm in
       omega (arith, ap (λ (u : Net). unseenPairs N M u) same, run-counts N M s (l ++ c) ok d, run-counts N M s r ok b, length-append l c)
 

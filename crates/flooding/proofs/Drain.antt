@@ -1,32 +1,21 @@
 -- The drain of a machine: the page's records Drains and Finishes, and that Drains settles the answer. Assumes nothing.
 use mathlib.Core.Path.{_≡_, refl, sym, _∙_, ap}
 use mathlib.Core.Logic.{_⊎_, inl, inr}
-use mathlib.Core.Bool.{Bool, true, false}
+use mathlib.Core.Bool.{false}
 use mathlib.Core.List.{List, [], _∷_, _++_}
 use Prim.Native.Nat.{ℕ, zero, suc, _+_, _-_, _*_, _≤_, _<_}
 use native.Mathlib.Omega.{arith}
-use lib.Dec.{leb}
-use borrow.Author.Tests.{leb-true, leb-false}
 use lib.ListN.{length, take, length-append, length-take}
 use Rattle.flooding.specs.Network.{Net, Quiet}
 use Rattle.flooding.specs.Counts.{unseenPairs}
-use Rattle.flooding.specs.Machine.{Pair, pair, run, Accepts, due, round, rounds, Drained, stopped, more, cut, drain, Machine}
+use Rattle.flooding.specs.Machine.{Pair, run, due, round, rounds, Drained, stopped, more, cut, drain, Machine}
 use Rattle.flooding.specs.Page.{Drains, Finishes}
-use Rattle.flooding.specs.Loop.{drain-stop, drain-round, drain-cut}
-use Rattle.flooding.proofs.Run.{mem}
+use Rattle.flooding.specs.Loop.{ways, run-append, drain-stop, drain-round, drain-cut}
+use Rattle.flooding.proofs.Run.{accepts-append, accepts-take, mem}
 use Rattle.flooding.proofs.Round.{todo-mem}
 use Rattle.flooding.proofs.Count.{unseen-bound}
 use Rattle.flooding.proofs.Course.{quiet-todo}
 use Rattle.flooding.proofs.Floods.{due-accepts, round-ok, floods}
-
--- A round has nothing to do, or the budget has all of it, or not all.
-ways : (n b : ℕ) → (n ≡ 0) ⊎ (((0 < n) × (n ≤ b)) ⊎ (b < n))
-ways zero b = inl refl
-ways (suc n) b = inr (first (leb (suc n) b) refl)
-  where
-    first : (y : Bool) → leb (suc n) b ≡ y → ((0 < suc n) × (suc n ≤ b)) ⊎ (b < suc n)
-    first true e = inl (omega arith, leb-true (suc n) b e)
-    first false e = inr (leb-false (suc n) b e)
 
 -- Nothing is below 0.
 none : {j : ℕ} → j < 0 → ⊥
@@ -39,22 +28,6 @@ nil-mem [] h q n = refl
 nil-mem (x ∷ l) h q n = absurd (omega arith)
 
 module _ {S : Type 0} (view : S → Net) (fwd : S → ℕ → ℕ → S) where
-  -- Runs and their acceptance, put together and cut short.
-  pub run-append : (s : S) (l r : List Pair) → run fwd s (l ++ r) ≡ run fwd (run fwd s l) r
-  unfolding run
-  run-append s [] r = refl
-  run-append s (pair p m ∷ l) r = run-append (fwd s p m) l r
-
-  pub accepts-append : (s : S) (l r : List Pair) → Accepts view fwd s l → Accepts view fwd (run fwd s l) r → Accepts view fwd s (l ++ r)
-  unfolding run
-  accepts-append s [] r a b = b
-  accepts-append s (pair p m ∷ l) r a b = (a .0, accepts-append (fwd s p m) l r (a .1) b)
-
-  pub accepts-take : (n : ℕ) (s : S) (l : List Pair) → Accepts view fwd s l → Accepts view fwd s (take n l)
-  accepts-take zero s l a = tt
-  accepts-take (suc n) s [] a = tt
-  accepts-take (suc n) s (pair p m ∷ l) a = (a .0, accepts-take n (fwd s p m) l (a .1))
-
   -- One round, and then k.
   pub rounds-shift : (N M k : ℕ) (s : S) → rounds view fwd N M k (round view fwd N M s) ≡ rounds view fwd N M (suc k) s
   unfolding rounds
@@ -106,7 +79,7 @@ module _ {S : Type 0} (view : S → Net) (fwd : S → ℕ → ℕ → S) (N M : 
           record {
             path = d ++ ih .path;
             accepted = accepts-append view fwd s d (ih .path) (due-accepts view fwd N M ok 𝓜 s k) (ih .accepted);
-            ends = ih .ends ∙ sym (run-append view fwd s d (ih .path));
+            ends = ih .ends ∙ sym (run-append fwd s d (ih .path));
             made = rw length-append (ap (λ (n : ℕ). length d + n) (ih .made));
             within = omega (arith, ih .within);
             stops = spent (ih .stops);

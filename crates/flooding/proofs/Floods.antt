@@ -1,7 +1,7 @@
 -- A machine whose forward shows the network's forward floods as the network does: the page's record Floods. Assumes nothing.
 use mathlib.Core.Path.{_≡_, refl, sym, _∙_, ap, subst}
 use mathlib.Core.Logic.{_⊎_, inl, inr, _↔_}
-use mathlib.Core.Bool.{true}
+use mathlib.Core.Bool.{true, false}
 use mathlib.Core.List.{List, [], _∷_}
 use Prim.Native.Nat.{ℕ, zero, suc, _+_, _<_}
 use native.Mathlib.Omega.{arith}
@@ -102,9 +102,9 @@ module _ {S : Type 0} (view : S → Net) (fwd : S → ℕ → ℕ → S) (N M : 
         each-lowers = λ p m a. rw (𝓜 .fwd-view s p m k a) (count.forward-counts N M (view s) p m fine a);
         counts = counts;
         seen-at-end = λ l a still q m.
-            let x = reached l a still q m in
+            let x = reached l a m (λ p. still p m) q in
             (λ h. split (x .0 h), λ o. x .1 (join o));
-        seen-or-reached = reached;
+        seen-at-rest = reached;
         same-end = end;
         same-count = λ l r a b still calm.
             omega (arith, ap (λ (t : S). unseenPairs N M (view t)) (end l r a b still calm), counts l a, counts r b);
@@ -134,9 +134,9 @@ module _ {S : Type 0} (view : S → Net) (fwd : S → ℕ → ℕ → S) (N M : 
       shows : (j q m : ℕ) → (view (rounds view fwd N M j s)) .seen q m ≡ (netRounds N M j (view s)) .seen q m
       shows j q m = ap (λ (t : Net). t .seen q m) (rounds-view j s k)
 
-      reached : (l : List Pair) → Accepts view fwd s l → Quiet (view (run fwd s l)) → (q m : ℕ)
+      reached : (l : List Pair) → Accepts view fwd s l → (m : ℕ) → ((p : ℕ) → (view (run fwd s l)) .pending p m ≡ false) → (q : ℕ)
           → ((view (run fwd s l)) .seen q m ≡ true) ↔ (((view s) .seen q m ≡ true) ⊎ Reached (view s) m q)
-      reached l a = rw (run-view s l k a) λ still q m. runs.seen-at-end (view s) l (shown s l k a) still q m
+      reached l a = rw (run-view s l k a) (runs.seen-at-rest (view s) l (shown s l k a))
 
       split : {m q : ℕ} → ((view s) .seen q m ≡ true) ⊎ Reached (view s) m q → ((view s) .seen q m ≡ true) ⊎ (((view s) .pending q m ≡ true) ⊎ Linked (view s) m q)
       split (inl h) = inl h

@@ -6,5 +6,6 @@ pub mod Course
 pub mod Tally
 pub mod Floods
 pub mod Drain
+pub mod Within
 pub mod Settled
 pub mod Examples

@@ -10,7 +10,8 @@ use borrow.Author.Tests.{eqb-true}
 use Rattle.sets.specs.Bools.{clash, not-false, bool-ext, and-yes, or-yes, or-right, not-yes, eqb-same, below-suc}
 use Rattle.flooding.specs.Network.{Net, Sound, link, at, forward}
 use Rattle.flooding.specs.Machine.{Pair, pair, run, itself, row, todo, round, rounds}
-use Rattle.flooding.proofs.Run.{after, Accepted, mem, feeds, feeds-yes, feeds-why, after-seen, after-pending, after-known, after-topic}
+use Rattle.flooding.specs.Loop.{run-append}
+use Rattle.flooding.proofs.Run.{after, Accepted, accepts-append, mem, feeds, feeds-yes, feeds-why, after-seen, after-pending, after-known, after-topic}
 
 -- A network's own rounds.
 abbrev pub netRound : ℕ → ℕ → Net → Net
@@ -19,7 +20,7 @@ netRound N M s = round itself forward N M s
 abbrev pub netRounds : ℕ → ℕ → ℕ → Net → Net
 netRounds N M k s = rounds itself forward N M k s
 
--- A list after another: its pairs, its run, its acceptance.
+-- A list after another: its pairs.
 pub mem-append : (l r : List Pair) (q n : ℕ) → mem (l ++ r) q n ≡ (mem l q n || mem r q n)
 unfolding mem
 mem-append [] r q n = refl
@@ -28,16 +29,6 @@ mem-append (pair p m ∷ l) r q n = rw (mem-append l r q n) (assoc (at p m q n))
     assoc : (a : Bool) → (a || (mem l q n || mem r q n)) ≡ ((a || mem l q n) || mem r q n)
     assoc true = refl
     assoc false = refl
-
-pub after-append : (s : Net) (l r : List Pair) → after s (l ++ r) ≡ after (after s l) r
-unfolding run
-after-append s [] r = refl
-after-append s (pair p m ∷ l) r = after-append (forward s p m) l r
-
-pub accepted-append : (s : Net) (l r : List Pair) → Accepted s l → Accepted (after s l) r → Accepted s (l ++ r)
-unfolding run
-accepted-append s [] r a b = b
-accepted-append s (pair p m ∷ l) r a b = (a .0, accepted-append (forward s p m) l r (a .1) b)
 
 -- The last of a row, if it is there.
 one-why : (s : Net) (p k q n : ℕ) → mem (cond (s .pending p k) (pair p k ∷ []) []) q n ≡ true → (q ≡ p) × (n ≡ k) × (s .pending p k ≡ true)
@@ -107,7 +98,7 @@ still-pending s l q n w e = after-pending s l q n ∙ rw (e, w)
 row-accepted : (s : Net) (l : List Pair) (p k : ℕ) → ((n : ℕ) → mem l p n ≡ false) → Accepted (after s l) (row s p k)
 unfolding row
 row-accepted s l p zero new = tt
-row-accepted s l p (suc k) new = accepted-append (after s l) (row s p k) _ (row-accepted s l p k new) (first (s .pending p k) refl)
+row-accepted s l p (suc k) new = accepts-append itself forward (after s l) (row s p k) _ (row-accepted s l p k new) (first (s .pending p k) refl)
   where
     fresh : mem (l ++ row s p k) p k ≡ false
     fresh = mem-append l (row s p k) p k ∙ rw (new k) (not-false λ h. absurd (row-late (row-why s p k p k h .1)))
@@ -116,13 +107,13 @@ row-accepted s l p (suc k) new = accepted-append (after s l) (row s p k) _ (row-
         row-late h = omega arith
 
     first : (b : Bool) → s .pending p k ≡ b → Accepted (after (after s l) (row s p k)) (cond b (pair p k ∷ []) [])
-    first true e = (rw (← after-append s l (row s p k)) (still-pending s (l ++ row s p k) p k e fresh), tt)
+    first true e = (rw (← run-append forward s l (row s p k)) (still-pending s (l ++ row s p k) p k e fresh), tt)
     first false e = tt
 
 pub todo-accepted : (M : ℕ) (s : Net) (k : ℕ) → Accepted s (todo M s k)
 unfolding todo
 todo-accepted M s zero = tt
-todo-accepted M s (suc k) = accepted-append s (todo M s k) (row s k M) (todo-accepted M s k) (row-accepted s (todo M s k) k M λ n. not-false λ h. late (todo-why M s k k n h .0))
+todo-accepted M s (suc k) = accepts-append itself forward s (todo M s k) (row s k M) (todo-accepted M s k) (row-accepted s (todo M s k) k M λ n. not-false λ h. late (todo-why M s k k n h .0))
   where
     late : k < k → ⊥
     late h = omega arith

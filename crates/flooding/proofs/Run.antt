@@ -2,9 +2,10 @@
 use mathlib.Core.Path.{_≡_, refl, sym, _∙_}
 use mathlib.Core.Logic.{_⊎_, inl, inr, _↔_}
 use mathlib.Core.Bool.{Bool, true, false, not, _&&_, _||_, or-false, or-true, and-false}
-use mathlib.Core.List.{List, [], _∷_}
-use Prim.Native.Nat.{ℕ, suc}
+use mathlib.Core.List.{List, [], _∷_, _++_}
+use Prim.Native.Nat.{ℕ, zero, suc}
 use lib.Dec.{eqb}
+use lib.ListN.{take}
 use borrow.Author.Tests.{eqb-true}
 use Rattle.sets.specs.Bools.{either, clash, bool-ext, and-yes, or-yes, or-no, or-right, not-yes, eqb-same}
 use Rattle.flooding.specs.Network.{Net, Sound, link, at, forward, Quiet, Chain, holds, link-to, Reached}
@@ -16,6 +17,18 @@ after s l = run forward s l
 
 abbrev pub Accepted : Net → List Pair → Type 0
 Accepted s l = Accepts itself forward s l
+
+-- One list after another is accepted, and so is a front of one.
+module _ {S : Type 0} (view : S → Net) (fwd : S → ℕ → ℕ → S) where
+  pub accepts-append : (s : S) (l r : List Pair) → Accepts view fwd s l → Accepts view fwd (run fwd s l) r → Accepts view fwd s (l ++ r)
+  unfolding run
+  accepts-append s [] r a b = b
+  accepts-append s (pair p m ∷ l) r a b = (a .0, accepts-append (fwd s p m) l r (a .1) b)
+
+  pub accepts-take : (n : ℕ) (s : S) (l : List Pair) → Accepts view fwd s l → Accepts view fwd s (take n l)
+  accepts-take zero s l a = tt
+  accepts-take (suc n) s [] a = tt
+  accepts-take (suc n) s (pair p m ∷ l) a = (a .0, accepts-take n (fwd s p m) l (a .1))
 
 -- The list has the pair q, n; the list has a pair p, n with a link to q.
 unfoldable pub mem : List Pair → ℕ → ℕ → Bool
@@ -130,22 +143,24 @@ feeds-why L (pair a m ∷ l) q n h = first (or-yes (eqb n m && L m a q) _ h) (fe
         let y = ih h′ in
         (y .0, or-right (at a m (y .0) n) (y .1), y .2)
 
--- Once none is pending, every desk on a chain has forwarded.
-pub chain-mem : (s : Net) (l : List Pair) → Quiet (after s l) → {m q d : ℕ} → Chain s m q d → mem l q m ≡ true
-chain-mem s l still {m} {q} (holds h) = first (either (mem l q m))
+-- Once m is pending nowhere, every desk on a chain has forwarded it.
+pub chain-mem : (s : Net) (l : List Pair) {m : ℕ} → ((p : ℕ) → (after s l) .pending p m ≡ false) → {q d : ℕ} → Chain s m q d → mem l q m ≡ true
+chain-mem s l {m} still {q} (holds h) = first (either (mem l q m))
   where
     first : (mem l q m ≡ true) ⊎ (mem l q m ≡ false) → mem l q m ≡ true
     first (inl e) = e
-    first (inr e) = clash (after-pending s l q m ∙ rw (e, h)) (still q m)
-chain-mem s l still {m} {q} (link-to {p = p} c k z) = first (either (mem l q m)) (feeds-yes (link s) l p q m (chain-mem s l still c) k)
+    first (inr e) = clash (after-pending s l q m ∙ rw (e, h)) (still q)
+chain-mem s l {m} still {q} (link-to {p = p} c k z) = first (either (mem l q m)) (feeds-yes (link s) l p q m (chain-mem s l still c) k)
   where
     first : (mem l q m ≡ true) ⊎ (mem l q m ≡ false) → feeds (link s) l q m ≡ true → mem l q m ≡ true
     first (inl e) f = e
-    first (inr e) f = clash (after-pending s l q m ∙ rw (e, z, f) (or-true (s .pending q m))) (still q m)
+    first (inr e) f = clash (after-pending s l q m ∙ rw (e, z, f) (or-true (s .pending q m))) (still q)
 
--- THE END, whatever the order: a desk has seen m exactly if it had at the start, or is reached by a chain.
-pub seen-at-end : (s : Net) (l : List Pair) → Accepted s l → Quiet (after s l) → (q m : ℕ) → ((after s l) .seen q m ≡ true) ↔ ((s .seen q m ≡ true) ⊎ Reached s m q)
-seen-at-end s l a still q m = (λ h. there (or-yes (s .seen q m) _ (sym (after-seen s l q m) ∙ h)), λ o. after-seen s l q m ∙ back o)
+-- THE END of a message, whatever the order and whatever else is still pending: a desk has seen m exactly if it had at the start, or is
+-- reached by a chain.
+pub seen-at-rest : (s : Net) (l : List Pair) → Accepted s l → (m : ℕ) → ((p : ℕ) → (after s l) .pending p m ≡ false) → (q : ℕ)
+    → ((after s l) .seen q m ≡ true) ↔ ((s .seen q m ≡ true) ⊎ Reached s m q)
+seen-at-rest s l a m still q = (λ h. there (or-yes (s .seen q m) _ (sym (after-seen s l q m) ∙ h)), λ o. after-seen s l q m ∙ back o)
   where
     there : (s .seen q m ≡ true) ⊎ (mem l q m ≡ true) → (s .seen q m ≡ true) ⊎ Reached s m q
     there (inl e) = inl e
@@ -168,6 +183,6 @@ same-end s l r a b still calm =
   where
     seen-same : (q m : ℕ) → (after s l) .seen q m ≡ (after s r) .seen q m
     seen-same q m =
-        let x = seen-at-end s l a still q m in
-        let y = seen-at-end s r b calm q m in
+        let x = seen-at-rest s l a m (λ p. still p m) q in
+        let y = seen-at-rest s r b m (λ p. calm p m) q in
         bool-ext (λ h. y .1 (x .0 h)) (λ h. x .1 (y .0 h))

@@ -13,8 +13,9 @@ use Rattle.flooding.specs.Network.{Net, Quiet}
 use Rattle.flooding.specs.Counts.{unseenPairs}
 use Rattle.flooding.specs.Machine.{Pair, run, due, round, rounds, Drained, drain, Machine}
 use Rattle.flooding.specs.Page.{Drains}
+use Rattle.flooding.proofs.Run.{accepts-take}
 use Rattle.flooding.proofs.Floods.{due-accepts, rounds-ok, floods}
-use Rattle.flooding.proofs.Drain.{accepts-take, drain-law}
+use Rattle.flooding.proofs.Drain.{drain-law}
 
 -- Two numbers of which neither is below the other.
 neither : (a b : ℕ) → (a < b → ⊥) → (b < a → ⊥) → a ≡ b

@@ -1,6 +1,9 @@
--- THE CLIENT'S PAGE: demand 3 of the minutes, sentence by sentence, and what document 01 says of the counts and of the drain.
--- S is any type of states that shows a network of N peers and M messages; a desk is a peer; s is the start, a sound state.
--- proofs/Floods.antt and proofs/Drain.antt prove the whole page of every sound state of every Machine; proofs/Settled.antt, that Drains leaves one answer. Assumes nothing.
+-- THE THEORY'S PAGE: demand 3 of the minutes, sentence by sentence, and what document 01 says of the counts and of the drain, of any type S of
+-- states that shows a network of N peers and M messages. The client's page, over the engine's own networks, is specs/Reach.antt of the crate drain.
+-- A desk is a peer; s is the start, a sound state. proofs/Floods.antt, proofs/Drain.antt and proofs/Within.antt prove the whole page of every sound
+-- state of every Machine; proofs/Settled.antt, that Drains leaves one answer. Assumes nothing.
+--   How to read it: `x ≡ true` says that x holds, and `x ≡ false` that it does not; `A → B`, if A then B; `(x : A) → B`, B for every x of A;
+--   `A × B`, A and B; `(x : A) × B`, there is an x of A with B; `A ⊎ B`, A or B; `A ↔ B`, A exactly if B; `A → ⊥`, A never.
 use mathlib.Core.Path.{_≡_}
 use mathlib.Core.Logic.{_⊎_, _↔_}
 use mathlib.Core.Bool.{true, false}
@@ -33,8 +36,8 @@ module _ {S : Type 0} (view : S → Net) (fwd : S → ℕ → ℕ → S) (N M : 
     -- chain of links from a pending holder, each later desk subscribed to its topic and not having seen it at the start."
     pub seen-at-end : (l : List Pair) → Accepts s l → Quiet (view (run s l)) → (q m : ℕ)
         → ((view (run s l)) .seen q m ≡ true) ↔ (((view s) .seen q m ≡ true) ⊎ (((view s) .pending q m ≡ true) ⊎ Linked (view s) m q))
-    -- the same, with a holder as a chain of 0 links
-    pub seen-or-reached : (l : List Pair) → Accepts s l → Quiet (view (run s l)) → (q m : ℕ)
+    -- the same of one message that is pending nowhere, while others may be; a holder is a chain of 0 links
+    pub seen-at-rest : (l : List Pair) → Accepts s l → (m : ℕ) → ((p : ℕ) → (view (run s l)) .pending p m ≡ false) → (q : ℕ)
         → ((view (run s l)) .seen q m ≡ true) ↔ (((view s) .seen q m ≡ true) ⊎ Reached (view s) m q)
     -- Demand 3: "The end state is the same for every order." So is the number of forwards; and no list of accepted forwards is longer.
     pub same-end : (l r : List Pair) → Accepts s l → Accepts s r → Quiet (view (run s l)) → Quiet (view (run s r)) → run s l ≡ run s r
@@ -70,6 +73,11 @@ module _ {S : Type 0} (view : S → Net) (fwd : S → ℕ → ℕ → S) (N M : 
     pub whole : r .end ≡ run (rounds (r .rounds) s) (take part (due N M (view (rounds (r .rounds) s))))
     -- "A round whose last pair was just forwarded is finished": so a part is not all, unless nothing was pending.
     pub unfinished : (part < length (due N M (view (rounds (r .rounds) s)))) ⊎ Quiet (view (rounds (r .rounds) s))
+
+  -- For any budget, by the rounds that it answers: a desk at fewer links has seen the message, and a desk at more has not.
+  pub record Within (s : S) (r : Drained S) : Type 0 where
+    pub nearer : (m q d : ℕ) → Shortest (view s) m q d → d < r .rounds → (view (r .end)) .seen q m ≡ true
+    pub farther : (m q d : ℕ) → Shortest (view s) m q d → r .rounds < d → (view (r .end)) .seen q m ≡ false
 
   -- "demand 3's statement on rounds holds for one drain with enough budget": it makes full rounds until nothing is pending.
   pub record Finishes (s : S) (r : Drained S) : Type 0 where

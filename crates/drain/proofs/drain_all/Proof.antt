@@ -1,12 +1,11 @@
 -- `drain::drain_all` meets its contract. The loop keeps that what is left of the drain is the drain of what is left. Assumes nothing.
-use mathlib.Core.Path.{sym, ap, _∙_}
+use mathlib.Core.Path.{sym, _∙_}
 use mathlib.Core.Logic.{inl, inr}
 use mathlib.Core.List.{[]}
-use Prim.Native.Nat.{ℕ, _+_, _-_, _≤_, _<_}
+use Prim.Native.Nat.{_+_, _-_, _≤_, _<_}
 use native.Mathlib.Omega.{arith}
 use borrow.Author.Needs.{needs}
 use borrow.Author.Tests.{eq-eqb}
-use lib.Dec.{eqb}
 use Rattle.network.specs.Network.{bare}
 use Rattle.drain.specs.LentLaws.{Draining, lent-none, lent-done, lent-fits, lent-moves, lent-round, lent-part}
 use Rattle.drain.proofs.drain_all.Statement.{statement}
@@ -29,8 +28,8 @@ waiting-requires c κs = search needs
 
 returns : tie.Need-returns Inv-loop μ-loop
 returns c =
-    lent-done (c .before .before .before .before .loop .inv) (inl (sym (c .before .waiting .ensures) ∙ c .if1 .taken)) _
-    (sym (eq-eqb _ 0 (sym (c .before .waiting .ensures) ∙ c .if1 .taken)))
+    lent-done (c .before .before .before .before .loop .inv) (inl (sym (c .before .waiting .ensures .0) ∙ c .if1 .taken)) _
+    (sym (eq-eqb _ 0 (c .if1 .taken)) ∙ c .before .waiting .ensures .1)
 
 sub-drain-round : tie.Need-sub-drain-round Inv-loop μ-loop
 sub-drain-round c = search needs
@@ -40,11 +39,11 @@ drain-round-requires c κs = (c .before .before .before .before .before .before 
 
 -- one round: within the budget, and something was forwarded
 fits : (c : tie.After-drain-round Inv-loop μ-loop) → c .before .before .before .before .before .before .before .before .loop .made + c .drain-round .result ≤ c .before .before .before .before .before .before .before .before .before .before .args .budget
-fits c = lent-fits (c .before .before .before .before .before .before .before .before .loop .inv) (c .before .before .before .before .before .waiting .ensures) (c .before .before .before .before .if1 .left) (c .drain-round .ensures .1) (c .drain-round .ensures .0)
+fits c = lent-fits (c .before .before .before .before .before .before .before .before .loop .inv) (c .before .before .before .before .before .waiting .ensures .0) (c .before .before .before .before .if1 .left) (c .drain-round .ensures .1) (c .drain-round .ensures .0)
 
 moves : (c : tie.After-drain-round Inv-loop μ-loop) → 0 < c .drain-round .result
 moves c =
-    lent-moves (c .before .before .before .before .before .before .before .before .loop .inv) (c .before .before .before .before .before .waiting .ensures) (c .before .before .before .before .if1 .left) (c .drain-round .ensures .1) (c .drain-round .ensures .0)
+    lent-moves (c .before .before .before .before .before .before .before .before .loop .inv) (c .before .before .before .before .before .waiting .ensures .0) (c .before .before .before .before .if1 .left) (c .drain-round .ensures .1) (c .drain-round .ensures .0)
     (search needs)
 
 add-made : tie.Need-add-made Inv-loop μ-loop
@@ -58,7 +57,7 @@ loop-less c = omega (arith, fits (c .before), moves (c .before))
 
 loop-again : tie.Need-loop-again Inv-loop μ-loop
 loop-again c =
-    lent-round (c .before .before .before .before .before .before .before .before .before .loop .inv) (c .before .before .before .before .before .before .waiting .ensures) (c .before .before .before .before .before .if1 .left) (c .before .drain-round .ensures .1) (c .before .drain-round .ensures .0)
+    lent-round (c .before .before .before .before .before .before .before .before .before .loop .inv) (c .before .before .before .before .before .before .waiting .ensures .0) (c .before .before .before .before .before .if1 .left) (c .before .drain-round .ensures .1) (c .before .drain-round .ensures .0)
     (c .if2 .taken)
 
 loop-less-2 : tie.Need-loop-less-2 Inv-loop μ-loop
@@ -66,7 +65,7 @@ loop-less-2 c = omega (arith, fits (c .before), moves (c .before))
 
 loop-again-2 : tie.Need-loop-again-2 Inv-loop μ-loop
 loop-again-2 c =
-    lent-part (c .before .before .before .before .before .before .before .before .before .loop .inv) (c .before .before .before .before .before .before .waiting .ensures) (c .before .before .before .before .before .if1 .left) (c .before .drain-round .ensures .1) (c .before .drain-round .ensures .0)
+    lent-part (c .before .before .before .before .before .before .before .before .before .loop .inv) (c .before .before .before .before .before .before .waiting .ensures .0) (c .before .before .before .before .before .if1 .left) (c .before .drain-round .ensures .1) (c .before .drain-round .ensures .0)
     (c .if2 .left)
 
 waiting-requires-2 : tie.Need-waiting-requires-2 Inv-loop μ-loop
@@ -74,7 +73,7 @@ waiting-requires-2 c κs = search needs
 
 returns-2 : tie.Need-returns-2 Inv-loop μ-loop
 returns-2 c =
-    lent-done (c .before .before .before .loop .inv) (inr (omega arith)) _ (ap (λ (w : ℕ). eqb w 0) (c .waiting2 .ensures))
+    lent-done (c .before .before .before .loop .inv) (inr (omega arith)) _ (c .waiting2 .ensures .1)
 
 pub drain-all-spec : {M : Type 1} → statement M
 drain-all-spec =

@@ -3,21 +3,23 @@ use mathlib.Core.Path.{_≡_, sym, ap₂, _∙_}
 use Prim.Native.Nat.{ℕ, _+_, _-_, _*_, _≤_}
 use native.Mathlib.Omega.{arith}
 use borrow.Author.Needs.{needs}
+use lib.Dec.{eqb}
 use lib.ListN.{getD}
+use Rattle.sets.specs.Any.{all, all-start, all-more}
 use Rattle.sets.specs.Set.{has, count}
 use Rattle.sets.specs.Sums.{sum, sum-start, sum-more}
-use Rattle.drain.specs.Pairs.{waitingOf}
+use Rattle.drain.specs.Pairs.{waitingOf, empty-more}
 use Rattle.drain.proofs.waiting.Statement.{statement}
 use Rattle.drain.proofs.waiting.Tie as tie
 
 abbrev Inv-loop : tie.InvT-loop
-Inv-loop pending total₀ p₀ total p = (p ≤ 32) × (total ≡ sum p (λ (i : ℕ). count 64 (has (getD pending i 0)))) × (total ≤ 64 * p)
+Inv-loop pending total₀ p₀ total p = (p ≤ 32) × (total ≡ sum p (λ (i : ℕ). count 64 (has (getD pending i 0)))) × (total ≤ 64 * p) × (eqb total 0 ≡ all p (λ (i : ℕ). eqb (getD pending i 0) 0))
 
 abbrev μ-loop : tie.MeasureT-loop
 μ-loop pending total₀ p₀ total p = 32 - p
 
 loop-holds : tie.Need-loop-holds Inv-loop μ-loop
-loop-holds c = (omega arith, sum-start _, omega arith)
+loop-holds c = (omega arith, sum-start _, omega arith, all-start _)
 
 mul-members : tie.Need-mul-members Inv-loop μ-loop
 mul-members c = search needs
@@ -39,13 +41,13 @@ loop-less c = omega arith
 
 loop-again : tie.Need-loop-again Inv-loop μ-loop
 loop-again c =
-    (omega arith, ap₂ _+_ (c .before .before .before .loop .inv .1) (c .members .ensures .0) ∙ sym (sum-more _ _), omega arith)
+    (omega arith, ap₂ _+_ (c .before .before .before .loop .inv .1) (c .members .ensures .0) ∙ sym (sum-more _ _), omega arith, empty-more (c .before .before .before .loop .total) (getD (c .before .before .before .before .args .pending .now) (c .before .before .before .loop .p) 0) (c .members .ensures .2) (c .members .ensures .0) (c .before .before .before .loop .inv .3) ∙ sym (all-more _ _))
 
 returns : tie.Need-returns Inv-loop μ-loop
 unfolding waitingOf
 returns c =
     let e : c .before .loop .p ≡ 32 = omega arith in
-    rw e at (c .before .loop .inv .1)
+    (rw e at (c .before .loop .inv .1), rw e at (c .before .loop .inv .3))
 
 pub waiting-spec : {M : Type 1} → statement M
 waiting-spec =

@@ -22,3 +22,7 @@ pub mod Imaging
 pub mod ImagingLaws
 pub mod ForwardRun
 pub mod RunImages
+pub mod RunReached
+pub mod StartPage
+pub mod StartExact
+pub mod RunPage

@@ -24,5 +24,7 @@ pub mod ForwardRun
 pub mod RunImages
 pub mod RunReached
 pub mod StartPage
-pub mod StartExact
+pub mod StartPageLaws
 pub mod RunPage
+pub mod RunPageLaws
+pub mod FromBlank

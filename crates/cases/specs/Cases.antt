@@ -1,20 +1,14 @@
--- Document 01: "Cases A1 to A12 are shown to hold for the definitions, as one table under a single statement". The events are read from
--- the bytes of their records, as a run reads them; `all-hold` is proved by working the definitions out. Assumes nothing.
+-- Document 01: "Cases A1 to A12 are shown to hold for the definitions, as one table under a single statement". What a row says is in specs/Rows.antt,
+-- over what the entry points promise on bytes; `all-hold` is proved by working the definitions out. Assumes nothing.
 use mathlib.Core.Path.{_≡_, refl}
-use mathlib.Core.Bool.{Bool, true, false, _&&_, _||_, not, cond}
+use mathlib.Core.Bool.{Bool, true, false}
 use mathlib.Core.List.{List, [], _∷_, _++_}
-use Prim.Native.Nat.{ℕ, _+_}
-use lib.Dec.{eqb}
-use lib.ListN.{replicate}
 use lib.Count.{ones}
 use Rattle.sets.specs.Any.{all}
-use Rattle.sets.specs.Bools.{and-yes, and-both}
 use Rattle.sets.specs.Set.{has, union, meet, minus, only, withIf, setOf, sift, size}
 use Rattle.lists.specs.Edit.{edit}
 use Rattle.endian.specs.Le.{le, putLe}
-use Rattle.flooding.specs.Machine.{Drained, run, row, todo, round, drain}
-use Rattle.network.specs.declared.Network.{Network}
-use Rattle.network.specs.Network.{peer, neighboursOf}
+use Rattle.flooding.specs.Machine.{run, row, todo, round, drain}
 use Rattle.network.specs.State.{blankNet}
 use Rattle.network.specs.Rows.{blankTable}
 use Rattle.events.specs.declared.Fields.{Fields}
@@ -30,78 +24,9 @@ use Rattle.floodnet.specs.Step.{refusal, effect, ifAccepted, after, deliveriesO
 use Rattle.floodnet.specs.View.{view, fwd}
 use Rattle.broadcastnet.specs.Commit.{together, underway, without, image}
 use Rattle.drain.specs.Drain.{drainOf, quietOf}
-use Rattle.broadcastnet.specs.Broadcast.{Broadcastnet}
-use Rattle.engine.specs.declared.Answer.{Answer}
-use Rattle.engine.specs.Run.{talliedOf, turnOf, runFrom, runAll, Final}
-
--- ---- events as 01 writes them
-
-pub join : ℕ → ℕ → ℕ → ℕ → Fields
-join p subs pubs neighbours = fieldsMk 6 p 0 subs pubs neighbours
-
-pub produce : ℕ → ℕ → Fields
-produce p m = fieldsMk 1 p m 0 0 0
-
-pub forward : ℕ → ℕ → Fields
-forward p m = fieldsMk 2 p m 0 0 0
-
-pub leave : ℕ → Fields
-leave p = fieldsMk 5 p 0 0 0 0
-
--- "H: blank network, then join 0 (pubs {0}), join 1 (subs {0}, neighbours {0}), join 2 (subs {0}, neighbours {1})."
-pub H : List Fields → List Fields
-H more = join 0 0 1 0 ∷ join 1 1 0 1 ∷ join 2 1 0 2 ∷ more
-
--- ---- the run of a list of records, "All message rows zero"
-
-pub bytes : List Fields → List ℕ
-bytes [] = []
-bytes (f ∷ l) = putFields (replicate 16 0) 0 f ++ bytes l
-
-pub ran : List Fields → Final
-ran l = runAll (bytes l) blankTable blankNet
-
--- ---- the rows
-
-pub data Row : Type 0 where
-  answers : List Fields → ℕ → ℕ → ℕ → Row
-  image-as : List Fields → List Fields → Row
-  neighbours : List Fields → ℕ → ℕ → Row
-  drains : List Fields → ℕ → ℕ → ℕ → Bool → Row
-
--- two lists of numbers are equal
-pub same : List ℕ → List ℕ → Bool
-same [] [] = true
-same [] (y ∷ r) = false
-same (x ∷ l) [] = false
-same (x ∷ l) (y ∷ r) = eqb x y && same l r
-
-pub alike : Bool → Bool → Bool
-alike true b = b
-alike false b = not b
-
--- an answer, two images, and a drain's answer, beside what they should be
-pub answer-is : Answer → ℕ → ℕ → ℕ → Bool
-answer-is a number place accepted = eqb (a .number) number && (eqb (a .place) place && eqb (a .accepted) accepted)
-
-pub images-are : Broadcastnet → Broadcastnet → Bool
-images-are s u = eqb (s .present) (u .present) && (same (s .pubs) (u .pubs) && (same (s .subs) (u .subs) && same (s .seen) (u .seen)))
-
-pub drained-is : Drained Network → ℕ → ℕ → Bool → Bool
-drained-is d forwards rounds quiet = eqb (d .forwards) forwards && (eqb (d .rounds) rounds && alike (quietOf (d .end)) quiet)
-
--- what a row says is so: the run's number, place and accepted count; the images after two lists; a peer's neighbours after a list; the drain
--- after a list, with a budget: forwards, rounds, quiet
-pub holds : Row → Bool
-holds (answers l number place accepted) = answer-is (ran l .answer) number place accepted
-holds (image-as l r) = images-are (image (ran l .network)) (image (ran r .network))
-holds (neighbours l p who) = eqb (neighboursOf (ran l .network) (peer p)) who
-holds (drains l budget forwards rounds quiet) = drained-is (drainOf blankTable budget (ran l .network)) forwards rounds quiet
-
--- every row of a list
-pub every : List Row → Bool
-every [] = true
-every (r ∷ l) = holds r && every l
+use Rattle.engine.specs.Run.{talliedOf, turnOf, runFrom, runAll}
+use Rattle.cases.specs.Rows.{join, produce, forward, leave, H, bytes, Row, answers, image-as, neighbours, drains, Each}
+use Rattle.cases.specs.Worked.{ended, small, proper, same, alike, answer-is, images-are, drained-is, works, every, each-holds, each-both}
 
 pub A7 : List Fields → List Fields
 A7 more = H (produce 0 5 ∷ forward 0 5 ∷ leave 0 ∷ more)
@@ -165,42 +90,46 @@ again =
 pub table : List Row
 table = start ++ (refused ++ (leaving ++ (joining ++ (draining ++ again))))
 
+-- The test of a list of rows (specs/Worked.antt), with all that it takes to work it out.
+tested : List Row → Bool
+unfolding answer-is images-are drained-is join produce forward leave H bytes ended small proper same alike works every A7 runAll runFrom turnOf talliedOf refusal effect ifAccepted after kindOf deliveriesOf turned turnedOf need refusalProduce refusalForward refusalLeave refusalJoin unionIf minusIf keepIf linkUp linkDown cleared placed left joined withoutIf moved receivers given forwarded deliveries holders isNew produced putFields putHead readingOf readOf readingAt readAt decodeOf fieldsAt orSeven skipOk pairOk topicsOk leaveOk joinOk noMore noSets noMessage blankTable blankNet le putLe edit has union meet minus only withIf setOf sift size ones all view fwd together underway without image drainOf quietOf run row todo round drain
+tested l = every l
+
+tested-hold : (l : List Row) → tested l ≡ true → Each l
+unfolding tested
+tested-hold l h = each-holds l h
+
 -- Each part is worked out by itself.
-start-hold : every start ≡ true
-unfolding answer-is images-are drained-is join produce forward leave H bytes ran same alike holds every A7 runAll runFrom turnOf talliedOf refusal effect ifAccepted after kindOf deliveriesOf turned turnedOf need refusalProduce refusalForward refusalLeave refusalJoin unionIf minusIf keepIf linkUp linkDown cleared placed left joined withoutIf moved receivers given forwarded deliveries holders isNew produced putFields putHead readingOf readOf readingAt readAt decodeOf fieldsAt orSeven skipOk pairOk topicsOk leaveOk joinOk noMore noSets noMessage blankTable blankNet le putLe edit has union meet minus only withIf setOf sift size ones all view fwd together underway without image drainOf quietOf run row todo round drain start
-start-hold = refl
+start-works : tested start ≡ true
+unfolding tested start
+start-works = refl
 
-refused-hold : every refused ≡ true
-unfolding answer-is images-are drained-is join produce forward leave H bytes ran same alike holds every A7 runAll runFrom turnOf talliedOf refusal effect ifAccepted after kindOf deliveriesOf turned turnedOf need refusalProduce refusalForward refusalLeave refusalJoin unionIf minusIf keepIf linkUp linkDown cleared placed left joined withoutIf moved receivers given forwarded deliveries holders isNew produced putFields putHead readingOf readOf readingAt readAt decodeOf fieldsAt orSeven skipOk pairOk topicsOk leaveOk joinOk noMore noSets noMessage blankTable blankNet le putLe edit has union meet minus only withIf setOf sift size ones all view fwd together underway without image drainOf quietOf run row todo round drain refused
-refused-hold = refl
+refused-works : tested refused ≡ true
+unfolding tested refused
+refused-works = refl
 
-leaving-hold : every leaving ≡ true
-unfolding answer-is images-are drained-is join produce forward leave H bytes ran same alike holds every A7 runAll runFrom turnOf talliedOf refusal effect ifAccepted after kindOf deliveriesOf turned turnedOf need refusalProduce refusalForward refusalLeave refusalJoin unionIf minusIf keepIf linkUp linkDown cleared placed left joined withoutIf moved receivers given forwarded deliveries holders isNew produced putFields putHead readingOf readOf readingAt readAt decodeOf fieldsAt orSeven skipOk pairOk topicsOk leaveOk joinOk noMore noSets noMessage blankTable blankNet le putLe edit has union meet minus only withIf setOf sift size ones all view fwd together underway without image drainOf quietOf run row todo round drain leaving
-leaving-hold = refl
+leaving-works : tested leaving ≡ true
+unfolding tested leaving
+leaving-works = refl
 
-joining-hold : every joining ≡ true
-unfolding answer-is images-are drained-is join produce forward leave H bytes ran same alike holds every A7 runAll runFrom turnOf talliedOf refusal effect ifAccepted after kindOf deliveriesOf turned turnedOf need refusalProduce refusalForward refusalLeave refusalJoin unionIf minusIf keepIf linkUp linkDown cleared placed left joined withoutIf moved receivers given forwarded deliveries holders isNew produced putFields putHead readingOf readOf readingAt readAt decodeOf fieldsAt orSeven skipOk pairOk topicsOk leaveOk joinOk noMore noSets noMessage blankTable blankNet le putLe edit has union meet minus only withIf setOf sift size ones all view fwd together underway without image drainOf quietOf run row todo round drain joining
-joining-hold = refl
+joining-works : tested joining ≡ true
+unfolding tested joining
+joining-works = refl
 
-draining-hold : every draining ≡ true
-unfolding answer-is images-are drained-is join produce forward leave H bytes ran same alike holds every A7 runAll runFrom turnOf talliedOf refusal effect ifAccepted after kindOf deliveriesOf turned turnedOf need refusalProduce refusalForward refusalLeave refusalJoin unionIf minusIf keepIf linkUp linkDown cleared placed left joined withoutIf moved receivers given forwarded deliveries holders isNew produced putFields putHead readingOf readOf readingAt readAt decodeOf fieldsAt orSeven skipOk pairOk topicsOk leaveOk joinOk noMore noSets noMessage blankTable blankNet le putLe edit has union meet minus only withIf setOf sift size ones all view fwd together underway without image drainOf quietOf run row todo round drain draining
-draining-hold = refl
+draining-works : tested draining ≡ true
+unfolding tested draining
+draining-works = refl
 
-again-hold : every again ≡ true
-unfolding answer-is images-are drained-is join produce forward leave H bytes ran same alike holds every A7 runAll runFrom turnOf talliedOf refusal effect ifAccepted after kindOf deliveriesOf turned turnedOf need refusalProduce refusalForward refusalLeave refusalJoin unionIf minusIf keepIf linkUp linkDown cleared placed left joined withoutIf moved receivers given forwarded deliveries holders isNew produced putFields putHead readingOf readOf readingAt readAt decodeOf fieldsAt orSeven skipOk pairOk topicsOk leaveOk joinOk noMore noSets noMessage blankTable blankNet le putLe edit has union meet minus only withIf setOf sift size ones all view fwd together underway without image drainOf quietOf run row todo round drain again
-again-hold = refl
+again-works : tested again ≡ true
+unfolding tested again
+again-works = refl
 
-joined-hold : (l r : List Row) → every l ≡ true → every r ≡ true → every (l ++ r) ≡ true
-unfolding every
-joined-hold [] r e f = f
-joined-hold (x ∷ l) r e f =
-    let y = and-yes (holds x) (every l) e in
-    and-both (y .0) (joined-hold l r (y .1) f)
-
--- EVERY CASE HOLDS.
-pub all-hold : every table ≡ true
+-- EVERY CASE HOLDS, from zero bytes, of what the entry points promise.
+pub all-hold : Each table
 unfolding table
 all-hold =
-    joined-hold start _ start-hold
-    (joined-hold refused _ refused-hold
-    (joined-hold leaving _ leaving-hold (joined-hold joining _ joining-hold (joined-hold draining again draining-hold again-hold))))
+    each-both start _ (tested-hold start start-works)
+    (each-both refused _ (tested-hold refused refused-works)
+    (each-both leaving _ (tested-hold leaving leaving-works)
+    (each-both joining _ (tested-hold joining joining-works)
+    (each-both draining again (tested-hold draining draining-works) (tested-hold again again-works)))))

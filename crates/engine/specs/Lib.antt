@@ -24,3 +24,9 @@ pub mod ForwardRun
 pub mod ReachPage
 pub mod ReachPageLaws
 pub mod RunImages
+pub mod RunReached
+pub mod StartPage
+pub mod StartPageLaws
+pub mod RunPage
+pub mod RunPageLaws
+pub mod FromBlank

@@ -89,7 +89,7 @@ event-delivers n b (Unsubscribe p topics) = inr refl
 event-delivers n b (Leave p) = inr refl
 event-delivers n b (Join p j) = inr refl
 
-turn-delivers : (b : Table) (n : Network) (r : Read) → (turnOf b n r .turned .kind ≡ Kind.Forward) ⊎ (turnOf b n r .turned .deliveries ≡ 0)
+pub turn-delivers : (b : Table) (n : Network) (r : Read) → (turnOf b n r .turned .kind ≡ Kind.Forward) ⊎ (turnOf b n r .turned .deliveries ≡ 0)
 unfolding turnOf turnedOf turned
 turn-delivers b n (Taken e) = first (refusal n b e)
   where

@@ -6,7 +6,6 @@ use mathlib.Core.Path.{_≡_}
 use mathlib.Core.Logic.{_↔_}
 use mathlib.Core.List.{List}
 use Prim.Native.Nat.{ℕ, suc, _+_, _*_, _/_, _<_}
-use lib.Dec.{eqb}
 use lib.ListN.{length, take}
 use Rattle.sets.specs.Set.{count}
 use Rattle.sets.specs.Sums.{sum}
@@ -16,8 +15,10 @@ use Rattle.network.specs.Sound.{Sound}
 use Rattle.network.specs.State.{openOf, opened}
 use Rattle.network.specs.Rows.{listOf}
 use Rattle.events.specs.declared.Event.{Event}
-use Rattle.events.specs.declared.Read.the-variants.{Taken, Refused}
+use Rattle.events.specs.declared.Read.the-variants.{Taken, Unknown, Unfit}
+use Rattle.events.specs.declared.kind.Kind.{Kind}
 use Rattle.events.specs.Event.{readAt}
+use Rattle.events.specs.Kind.{alike}
 use Rattle.floodnet.specs.Step.{refusal, effect, deliveriesOf}
 use Rattle.floodnet.specs.View.{pairs}
 use Rattle.engine.specs.declared.Tally.{Tally}
@@ -64,17 +65,18 @@ pub record RunDone (s t ev : List ℕ) (old : Tally) (r : Answer) (s′ : List �
       → (r .place ≡ r .accepted) × (r .accepted < length ev / 16) × (r .number ≡ turnAt ev (tableIn t) (netIn s) (r .place) .number)
   -- "the state is that after the events before it": these, run alone on the same bytes, are all accepted, with the same state and tally
   pub before : runOf s t (take (16 * r .accepted) ev) old ≡ record { answer = record { number = 0; place = 0; accepted = r .accepted }; tally = new; state = s′ }
-  -- the tally is of the accepted events alone: how many are produces (kind 1), how many forwards (kind 2), and the sum of the deliveries
-  pub produced : new .produced ≡ count (r .accepted) (λ i. eqb (kindAt ev i) 1)
-  pub forwards : new .forwards ≡ count (r .accepted) (λ i. eqb (kindAt ev i) 2)
+  -- the tally is of the accepted events alone: how many are produces, how many forwards, and the sum of the deliveries
+  pub produced : new .produced ≡ count (r .accepted) (λ i. alike (kindAt ev i) Kind.Produce)
+  pub forwards : new .forwards ≡ count (r .accepted) (λ i. alike (kindAt ev i) Kind.Forward)
   pub deliveries : new .deliveries ≡ sum (r .accepted) (λ i. turnAt ev (tableIn t) (netIn s) i .deliveries)
   -- "Pending pairs at the end = pending pairs at the start + produced + deliveries - forwards"
   pub balance : pairs (netIn s′) + new .forwards ≡ pairs (netIn s) + (new .produced + new .deliveries)
 
 -- What becomes of a record, in the network m that it meets: i is its place.
 pub record TurnPage (ev : List ℕ) (b : Table) (n : Network) (i : ℕ) (m : Network) : Type 0 where
-  -- bytes that are no event are refused by the number that reading gives, 6 or 7
-  pub bytes : (k : ℕ) → readAt ev i ≡ Refused k → turnAt ev b n i .number ≡ k
+  -- bytes that are no event are refused: by 6 for an unknown code, by 7 for a number out of range or an unused byte that is not zero
+  pub unknown : readAt ev i ≡ Unknown → turnAt ev b n i .number ≡ 6
+  pub unfit : readAt ev i ≡ Unfit → turnAt ev b n i .number ≡ 7
   -- an event is refused by the number of the first of its conditions that fails, 0 if none does (floodnet's specs/Page.antt)
   pub event : (e : Event) → readAt ev i ≡ Taken e → turnAt ev b n i .number ≡ refusal m b e
   -- an accepted event does what its kind does, and makes as many deliveries as that

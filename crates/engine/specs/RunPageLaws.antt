@@ -21,7 +21,10 @@ use Rattle.network.specs.Trips.{write-read}
 use Rattle.events.specs.declared.Event.{Event}
 use Rattle.events.specs.declared.Read.{Read}
 use Rattle.events.specs.declared.Read.the-variants.{Taken}
-use Rattle.floodnet.specs.Step.{refusal, effect, ifAccepted, after, kindOf, deliveriesOf, turned, turnedOf}
+use Rattle.events.specs.declared.kind.Kind.{Kind}
+use Rattle.events.specs.Event.{readingOf}
+use Rattle.events.specs.Kind.{kindOf, alike}
+use Rattle.floodnet.specs.Step.{refusal, effect, ifAccepted, after, deliveriesOf, turned, turnedOf}
 use Rattle.engine.specs.declared.Tally.{Tally}
 use Rattle.engine.specs.declared.Answer.{Answer}
 use Rattle.engine.specs.Start.{beginOf}
@@ -36,7 +39,7 @@ use Rattle.engine.specs.RunReached.{reached, Along, run-along}
 use Rattle.engine.specs.RunPage.{netIn, tableIn, RunRefused, RunDone, TurnPage, RunPage}
 
 -- the record at a place
-turned-number : (k kind d : ℕ) → turned k kind d .number ≡ k
+turned-number : (k : ℕ) (kind : Kind) (d : ℕ) → turned k kind d .number ≡ k
 unfolding turned
 turned-number zero kind d = refl
 turned-number (suc k) kind d = refl
@@ -47,11 +50,12 @@ unfolding turnOf turnedOf turned after ifAccepted
 done-accepted b m e h = (rw h, rw h)
 
 page-turn : (ev : List ℕ) (b : Table) (n : Network) (i : ℕ) → TurnPage ev b n i (reached ev b n i)
-unfolding reached turnOf turnedOf
+unfolding reached turnOf turnedOf readingOf
 page-turn ev b n i =
     let m : Network = reached ev b n i in
     record {
-      bytes = λ k z. ap (λ (r : Read). turnOf b m r .turned .number) z;
+      unknown = λ z. ap (λ (r : Read). turnOf b m r .turned .number) z;
+      unfit = λ z. ap (λ (r : Read). turnOf b m r .turned .number) z;
       event = λ e z. ap (λ (r : Read). turnOf b m r .turned .number) z ∙ turned-number (refusal m b e) (kindOf e) (deliveriesOf m b e);
       effect = λ e z h.
           (ap (λ (r : Read). turnOf b m r .network) z ∙ done-accepted b m e h .0, ap (λ (r : Read). turnOf b m r .turned .deliveries) z ∙ done-accepted b m e h .1);
@@ -107,10 +111,10 @@ module _ (s t ev : List ℕ) (old : Tally) (hs : Bytes s) (he : Bytes ev) (z : b
   held = ap (λ (o : Opened). o .network) back
 
   -- the events of a kind, counted from the first
-  kinds-all : (kind : ℕ) → kinds ev kind 0 (a - 0) ≡ count a (λ i. eqb (kindAt ev i) kind)
+  kinds-all : (kind : Kind) → kinds ev kind 0 (a - 0) ≡ count a (λ i. alike (kindAt ev i) kind)
   kinds-all kind =
       let e : a - 0 ≡ a = omega arith in
-      rw e (count-ext a _ _ λ i l. ap (λ (j : ℕ). eqb (kindAt ev j) kind) (zero-add i))
+      rw e (count-ext a _ _ λ i l. ap (λ (j : ℕ). alike (kindAt ev j) kind) (zero-add i))
     where
       zero-add : (i : ℕ) → 0 + i ≡ i
       zero-add i = omega arith
@@ -136,8 +140,8 @@ module _ (s t ev : List ℕ) (old : Tally) (hs : Bytes s) (he : Bytes ev) (z : b
         place = λ c. ends .all c .1;
         stops = λ c. (ends .refused c .1, omega (arith, ends .refused c .0), along .why c);
         before = alone;
-        produced = omega (arith, counts .produced, kinds-all 1);
-        forwards = omega (arith, counts .forwards, kinds-all 2);
+        produced = omega (arith, counts .produced, kinds-all Kind.Produce);
+        forwards = omega (arith, counts .forwards, kinds-all Kind.Forward);
         deliveries = along .deliveries;
         balance = rw held (omega (arith, keeps .balance start));
       }

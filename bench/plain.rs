@@ -45,7 +45,7 @@ pub fn read(b: &[u8]) -> Result<Net, usize> {
     for p in 0..32 {
         let r = &b[p * 160..p * 160 + 160];
         heads[p] = word(r, 0);
-        if heads[p] == 1 {
+        if heads[p] & 0xff == 1 {
             n.present |= 1 << p;
         }
         n.pubs[p] = word(r, 4);

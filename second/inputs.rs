@@ -2,6 +2,7 @@
 
 pub mod damage;
 pub mod lists;
+pub mod long;
 pub mod networks;
 pub mod rng;
 

@@ -42,11 +42,11 @@ fn event(code: u8, peer: Peer, message: Message, words: [u32; 3]) -> Bytes {
     bytes
 }
 
-fn with_message(code: u8, peer: Peer, message: Message) -> Bytes {
+pub fn with_message(code: u8, peer: Peer, message: Message) -> Bytes {
     event(code, peer, message, [0; 3])
 }
 
-fn with_words(code: u8, peer: Peer, words: [u32; 3]) -> Bytes {
+pub fn with_words(code: u8, peer: Peer, words: [u32; 3]) -> Bytes {
     event(code, peer, Message(0), words)
 }
 
@@ -247,14 +247,14 @@ fn walked(rng: &mut Rng, network: &Network, table: &Table, step: usize) -> Bytes
     bytes
 }
 
-fn any_bytes(rng: &mut Rng) -> Bytes {
+pub fn any_bytes(rng: &mut Rng) -> Bytes {
     let mut bytes = [0; 16];
     bytes.copy_from_slice(&rng.bytes(16));
     bytes
 }
 
 /// An event of any kind with fields in range and no regard to the network.
-fn blind(rng: &mut Rng) -> Bytes {
+pub fn blind(rng: &mut Rng) -> Bytes {
     let (peer, message) = (any_peer(rng), any_message(rng));
     let words = [rng.word(), rng.word(), rng.word()];
     match rng.below(7) as u8 {

@@ -16,7 +16,7 @@ mkdir -p "$out"
 . second/build.sh
 
 gate='answers-modulo-65536 reads-beyond-events touches-table touches-refused-state writes-behind-tally leaver-stays
-back-to-seen-orders same-round image-own-pending new-at-origin blames-the-other order-4-5 reads-once'
+back-to-seen-orders same-round image-own-pending new-at-origin blames-the-other tally-kept reads-once'
 
 wanted='' share=20 ready=''
 while [ $# -gt 0 ]; do
@@ -27,7 +27,7 @@ while [ $# -gt 0 ]; do
     esac
     shift
 done
-wanted=" $(echo $wanted) "
+wanted=" $(echo $wanted) " # single spaces
 all=$out/mutants
 rm -rf "$all"
 mkdir -p "$all"
@@ -66,7 +66,7 @@ try() { # NAME WORD..
     name=$1 end=0
     shift
     timeout 300 "$@" --first >"$all/said" 2>&1 || end=$?
-    line=$(grep -m 1 -e DIFFERENCE -e 'FAILED: ' "$all/said" | cut -c 1-150) || line=''
+    line=$(grep -m 1 -e DIFFERENCE -e 'FAILED: .* case ' "$all/said" | cut -c 1-150) || line=''
     [ "$end" != 124 ] || line='runs on without end'
     printf '%s: %s\n' "$name" "${line:-no difference}"
     [ "$end" != 0 ] && [ -n "$line" ]
@@ -101,8 +101,9 @@ mkdir "$all/unchanged"
 cp -R second/model.rs second/model second/standin.rs "$all/unchanged/"
 with_engine "$all/unchanged"
 unchanged=$command
-if try unchanged $unchanged $parts --percent "$share"; then
-    echo "the unchanged model differs from itself"
+if try unchanged $unchanged $parts --percent "$share" || [ "$end" != 0 ]; then
+    echo "the unchanged model differs from itself, or the comparison does not run:"
+    cat "$all/said"
     exit 2
 fi
 . second/slips.sh

@@ -70,11 +70,11 @@ slip image-keeps-links calls.rs 's/^            pubs: record.pubs.clone(),/     
 slip copy-clears calls.rs '/^pub fn copy/,/^}/s/^    checked(read/    to.fill(0);\n    checked(read/'
 
 # 16 bits where more are needed
-slip answers-modulo-65536 standin.rs 's/CAnswer(number, place, accepted)/CAnswer(number, place % 65536, accepted % 65536)/'
-slip accepted-modulo-65536 standin.rs 's/CAnswer(number, place, accepted)/CAnswer(number, place, accepted % 65536)/'
-slip produced-modulo-65536 standin.rs 's/CTally(own.produced, /CTally(own.produced % 65536, /'
-slip deliveries-modulo-65536 standin.rs 's/, own.deliveries);/, own.deliveries % 65536);/'
-slip stops-at-65536 calls.rs 's/in events.chunks(EVENT_SIZE).enumerate() {/in events.chunks(EVENT_SIZE).enumerate().take(65536) {/'
+slip answers-modulo-65536 standin.rs 's/CAnswer(number, place, accepted)/CAnswer(number, place % 65536, accepted % 65536)/' '--only long'
+slip accepted-modulo-65536 standin.rs 's/CAnswer(number, place, accepted)/CAnswer(number, place, accepted % 65536)/' '--only long'
+slip produced-modulo-65536 standin.rs 's/CTally(own.produced, /CTally(own.produced % 65536, /' '--only long'
+slip deliveries-modulo-65536 standin.rs 's/, own.deliveries);/, own.deliveries % 65536);/' '--only long'
+slip stops-at-65536 calls.rs 's/in events.chunks(EVENT_SIZE).enumerate() {/in events.chunks(EVENT_SIZE).enumerate().take(65536) {/' '--only long'
 
 # bytes that are not its own, or not lent to be written; "touch" writes a byte and puts the old one back
 touch='unsafe fn touch(at: *const u8) { let at = at as *mut u8; let old = at.read_volatile(); at.write_volatile(!old); at.write_volatile(old) }'

@@ -3,14 +3,14 @@
 
 use std::fmt::Write;
 use std::ptr::{addr_of, addr_of_mut};
-use std::sync::atomic::{AtomicUsize, Ordering::Relaxed};
+use std::sync::atomic::{AtomicI32, AtomicUsize, Ordering::Relaxed};
 
 /// A call that takes longer runs on without end.
 const SECONDS: u32 = 60;
 
 const ALARM: i32 = 14;
-/// Illegal instruction, abort, bus error, arithmetic, access, alarm.
-const SIGNALS: [i32; 6] = [4, 6, 7, 8, 11, ALARM];
+/// Illegal instruction, abort, bus error, arithmetic, access, alarm, and the end that others ask for.
+const SIGNALS: [i32; 7] = [4, 6, 7, 8, 11, ALARM, 15];
 /// With the address in question, and on the stack that the runtime keeps for signals.
 const WITH_ADDRESS_ON_OWN_STACK: i32 = 4 | 0x0800_0000;
 
@@ -26,6 +26,7 @@ extern "C" {
     fn sigaction(signal: i32, action: *const Action, old: *mut Action) -> i32;
     fn alarm(seconds: u32) -> u32;
     fn write(file: i32, bytes: *const u8, count: usize) -> isize;
+    fn kill(process: i32, signal: i32) -> i32;
     fn _exit(status: i32) -> !;
 }
 
@@ -49,6 +50,17 @@ static mut CASE: Line = Line { bytes: [0; 400], length: 0 };
 /// Where the contents of the lent buffers begin, and their lengths.
 static STARTS: [AtomicUsize; 4] = [const { AtomicUsize::new(0) }; 4];
 static LENGTHS: [AtomicUsize; 4] = [const { AtomicUsize::new(0) }; 4];
+
+/// The processes that were started: the engine, the run program.
+static STARTED: [AtomicI32; 2] = [const { AtomicI32::new(0) }; 2];
+
+pub const ENGINE: usize = 0;
+pub const PROGRAM: usize = 1;
+
+/// A process that is not to outlive this one; 0 if there is none any more.
+pub fn started(which: usize, process: u32) {
+    STARTED[which].store(process as i32, Relaxed);
+}
 
 /// The case that is compared from now on.
 pub fn case(words: &str) {
@@ -110,6 +122,9 @@ extern "C" fn ended(signal: i32, info: *const u8, _: *const u8) {
         let _ = line.write_str(if inside { ": it writes what must stay untouched" } else { "" });
     }
     let _ = line.write_str("\ncompare: FAILED\n");
+    for process in STARTED.iter().map(|process| process.load(Relaxed)).filter(|process| *process > 0) {
+        unsafe { kill(process, 9) };
+    }
     unsafe {
         write(1, line.bytes.as_ptr(), line.length);
         _exit(1)

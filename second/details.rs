@@ -35,8 +35,10 @@ pub fn of_call(case: &Case, reply: &Reply, after: &[Vec<u8>]) -> Vec<Detail> {
         }
         _ => Vec::new(),
     };
-    if reply.number() == 5 {
-        found.extend(of_unsound(&case.buffers[0], reply.place()));
+    match reply.number() {
+        4 => found.extend(of_row(&case.buffers[1], reply.place())),
+        5 => found.extend(of_unsound(&case.buffers[0], reply.place())),
+        _ => (),
     }
     found
 }
@@ -48,9 +50,6 @@ fn seen_pairs(state: &[u8]) -> u32 {
 
 fn of_run(case: &Case, answer: &Answer, tally: &[u8]) -> Vec<Detail> {
     let mut found = of_events(&case.buffers[2], answer);
-    if answer.number == 4 {
-        found.extend(of_row(&case.buffers[1], answer.place));
-    }
     if case.buffers[2].len() >= 65_535 * EVENT_SIZE {
         found.extend(of_long(case, answer, &tally_of(tally)));
     }

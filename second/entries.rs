@@ -26,22 +26,36 @@ pub struct Entry {
     pub least: u64,
     pub numbers: &'static [u8],
     /// What must occur besides, in the words of details.rs.
-    pub details: &'static [&'static str],
+    pub details: &'static [&'static [&'static str]],
 }
 
 /// One more than the largest number of 01's table.
 pub const NUMBERS: usize = 19;
 
 pub const ENTRIES: [Entry; 9] = [
-    Entry { part: Part::Check, name: "check", cases: 6000, least: 100, numbers: &[0, 1, 5], details: RULES },
-    Entry { part: Part::Copy, name: "copy", cases: 4000, least: 100, numbers: &[0, 1, 5], details: COPIES },
+    Entry {
+        part: Part::Check,
+        name: "check",
+        cases: 6000,
+        least: 100,
+        numbers: &[0, 1, 5],
+        details: &[RULES],
+    },
+    Entry {
+        part: Part::Copy,
+        name: "copy",
+        cases: 4000,
+        least: 100,
+        numbers: &[0, 1, 5],
+        details: &[RULES, COPIES],
+    },
     Entry {
         part: Part::Run,
         name: "run",
         cases: 12000,
         least: 100,
         numbers: &[0, 1, 2, 3, 4, 5, 6, 7, 8, 9, 10, 11, 12, 13, 14, 15, 16],
-        details: EVENTS,
+        details: &[RULES, ROWS, EVENTS],
     },
     Entry {
         part: Part::Long,
@@ -49,7 +63,7 @@ pub const ENTRIES: [Entry; 9] = [
         cases: 80,
         least: 4,
         numbers: &[0, 6, 7, 8, 9, 10, 11, 12, 13, 14, 15, 16],
-        details: LONG,
+        details: &[LONG],
     },
     Entry {
         part: Part::Forward,
@@ -57,14 +71,7 @@ pub const ENTRIES: [Entry; 9] = [
         cases: 8000,
         least: 100,
         numbers: &[0, 1, 2, 4, 5, 7, 8, 13],
-        details: &[
-            "no delivery",
-            "1 delivery",
-            "2 to 30",
-            "31 deliveries",
-            "peer above 31",
-            "message above 63",
-        ],
+        details: &[RULES, ROWS, FORWARDS],
     },
     Entry {
         part: Part::Drain,
@@ -72,7 +79,7 @@ pub const ENTRIES: [Entry; 9] = [
         cases: 6000,
         least: 100,
         numbers: &[0, 1, 2, 4, 5],
-        details: DRAINS,
+        details: &[ROWS, DRAINS],
     },
     Entry {
         part: Part::Image,
@@ -80,16 +87,16 @@ pub const ENTRIES: [Entry; 9] = [
         cases: 5000,
         least: 100,
         numbers: &[0, 1, 5, 18],
-        details: &["hides a message", "hides none"],
+        details: &[&["hides a message", "hides none"]],
     },
-    Entry { part: Part::Orders, name: "orders", cases: 160, least: 160, numbers: &[0], details: ORDERS },
+    Entry { part: Part::Orders, name: "orders", cases: 160, least: 160, numbers: &[0], details: &[ORDERS] },
     Entry {
         part: Part::Program,
         name: "program",
         cases: 3000,
         least: 30,
         numbers: &[0, 1, 2, 3, 4, 5, 6, 7, 8, 9, 10, 11, 12, 13, 14, 15, 16, 17],
-        details: PROGRAM,
+        details: &[PROGRAM],
     },
 ];
 
@@ -110,7 +117,14 @@ const RULES: &[&str] = &[
 
 const COPIES: &[&str] = &["1 for the one read", "1 for the one written", "5 before a wrong length to write"];
 
-/// Every kind accepted, every condition of every kind, and the fields of rows and events.
+/// For 4: where the lowest bad row stands, and its first wrong byte.
+const ROWS: &[&str] =
+    &["row 0", "row 63", "another row", "row byte 0", "row byte 1", "row byte 2", "row byte 3"];
+
+const FORWARDS: &[&str] =
+    &["no delivery", "1 delivery", "2 to 30", "31 deliveries", "peer above 31", "message above 63"];
+
+/// Every kind accepted, every condition of every kind, and codes and places.
 const EVENTS: &[&str] = &[
     "skip accepted",
     "produce accepted",
@@ -142,13 +156,6 @@ const EVENTS: &[&str] = &[
     "code 7",
     "code 8 to 254",
     "code 255",
-    "row 0",
-    "row 63",
-    "another row",
-    "row byte 0",
-    "row byte 1",
-    "row byte 2",
-    "row byte 3",
     "no events",
     "refused at place 0",
     "refused further on",

@@ -1,5 +1,6 @@
 //! The run program as a process: its standard input, at once or in drops, and its standard output.
 
+use crate::crash;
 use std::io::{ErrorKind, Write};
 use std::process::{Child, Command, Stdio};
 use std::time::Duration;
@@ -27,11 +28,13 @@ fn hand_over(pipe: &mut impl Write, input: &[u8], pieces: &[usize]) -> std::io::
 /// all input can be handed over first; a program may stop reading once it has more than 65,536 bytes.
 pub fn run(command: &[String], input: &[u8], pieces: &[usize]) -> Result<Vec<u8>, String> {
     let mut child = spawn(command)?;
+    crash::started(crash::PROGRAM, child.id());
     match hand_over(&mut child.stdin.take().expect("a pipe"), input, pieces) {
         Err(error) if error.kind() != ErrorKind::BrokenPipe => return Err(format!("cannot write: {error}")),
         _ => (),
     }
     let output = child.wait_with_output().map_err(|error| format!("cannot wait: {error}"))?;
+    crash::started(crash::PROGRAM, 0);
     match output.status.code() {
         Some(_) => Ok(output.stdout),
         None => Err(format!("ended by a signal: {}", output.status)),

@@ -1,6 +1,7 @@
 //! The engine as a process (shim.c with the static library), for a host that the library is not compiled
 //! for.
 
+use crate::crash;
 use crate::flood;
 use crate::lent::Lent;
 use crate::model::{Answer, Checked, Drained, Forwarded};
@@ -19,6 +20,7 @@ pub struct Process {
 impl Process {
     pub fn start(command: &[String], flood: Option<Vec<String>>) -> Result<Process, String> {
         let mut child = flood::spawn(command)?;
+        crash::started(crash::ENGINE, child.id());
         let requests = child.stdin.take().expect("a pipe");
         let replies = child.stdout.take().expect("a pipe");
         Ok(Process { child, requests, replies, flood })
@@ -62,6 +64,7 @@ impl Subject for Process {
             Ok(reply) => reply,
             Err(error) => {
                 let end = self.child.wait();
+                crash::started(crash::ENGINE, 0);
                 return Err(format!("the engine's process broke down: {error}, {end:?}"));
             }
         };

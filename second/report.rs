@@ -105,7 +105,7 @@ impl Report {
                 }
             }
             let occurred = |words: &str| self.details[index].contains_key(words);
-            let absent = entry.details.iter().filter(|words| !occurred(words));
+            let absent = entry.details.iter().copied().flatten().filter(|words| !occurred(words));
             missing.extend(absent.map(|words| format!("{}: \"{words}\" did not occur", entry.name)));
         }
         missing.iter().for_each(|words| println!("{words}"));

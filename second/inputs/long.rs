@@ -1,6 +1,7 @@
 //! Lists of more than 65,536 events, so that a count or place kept in 16 bits shows.
 
-use super::lists::{accepted, any_bytes, blind, refused, with_message, with_words, Bytes, Mood};
+use super::lists::{accepted, any_bytes, blind, with_message, with_words, Bytes, Mood};
+use super::refusals::refused;
 use super::rng::Rng;
 use super::{networks, table_or_zero};
 use crate::model::events::{apply, Event, Table, TABLE_SIZE};

@@ -18,7 +18,7 @@ mkdir -p "$out"
 gate='answers-modulo-65536 reads-beyond-events touches-table touches-refused-state writes-behind-tally leaver-stays
 back-to-seen-orders same-round image-own-pending new-at-origin blames-the-other tally-kept reads-once'
 
-wanted='' share=20 ready=''
+wanted='' share=5 ready=''
 while [ $# -gt 0 ]; do
     case $1 in
     --gate) wanted=$gate share=2 ready=yes ;;

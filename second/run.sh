@@ -29,6 +29,9 @@ if [ "${1-}" = --self ]; then
     exec "$out/compare" "$@"
 fi
 
+# Compiled while the library is made.
+compile_compare "$route" &
+compiling=$!
 rt staticlib engine
 library=target/staticlib/libengine.a
 
@@ -49,7 +52,7 @@ under_kit() { # PROGRAM: the words that start it, each on a line
     "$tools/lib/libc.so.6" "$tools/lib/libc_nonshared.a" "$tools/lib/libgcc.a" \
     "$tools/lib/crtendS.o" "$tools/lib/crtn.o"
 
-compile_compare "$route"
+wait "$compiling"
 case $route in
 linked) link_compare "$out/compare" "$library" ;;
 *) link_compare "$out/compare" ;;

@@ -1,44 +1,21 @@
 //! The inputs of each part of the comparison, made from a seeded source and the case's number.
 
+use crate::entries::Part;
 use crate::inputs::rng::Rng;
 use crate::inputs::{self, networks, wrong_length};
 use crate::model::calls::drain_network;
 use crate::model::events::TABLE_SIZE;
 use crate::model::state::{all_peers, Network, Peer, PEERS, STATE_SIZE};
 use crate::model::Tally;
-use crate::subject::Call;
+use crate::subject::{tally_bytes, Call};
 
-#[derive(Clone, Copy, Debug, PartialEq, Eq)]
-pub enum Part {
-    Check,
-    Copy,
-    Run,
-    Forward,
-    Drain,
-    Image,
-    Program,
-}
-
-/// Each part with its name, its number of cases at full size, and the numbers that it can answer.
-pub const PARTS: [(Part, &str, usize, &[u8]); 7] = [
-    (Part::Check, "check", 6000, &[0, 1, 5]),
-    (Part::Copy, "copy", 4000, &[0, 1, 5]),
-    (Part::Run, "run", 12000, &[0, 1, 2, 3, 4, 5, 6, 7, 8, 9, 10, 11, 12, 13, 14, 15, 16]),
-    (Part::Forward, "forward", 8000, &[0, 1, 2, 4, 5, 7, 8, 13]),
-    (Part::Drain, "drain", 6000, &[0, 1, 2, 4, 5]),
-    (Part::Image, "image", 5000, &[0, 1, 5, 18]),
-    (Part::Program, "program", 600, &[0, 1, 2, 3, 4, 5, 6, 7, 8, 9, 10, 11, 12, 13, 14, 15, 16, 17]),
-];
-
-/// One call, its lent buffers, and what the tally holds before it.
+/// One call and its lent buffers as they are before it.
 pub struct Case {
     pub call: Call,
     pub buffers: Vec<Vec<u8>>,
-    pub tally: Tally,
 }
 
 pub fn make(part: Part, rng: &mut Rng, number: usize) -> Case {
-    let tally = Tally { produced: rng.next(), forwards: rng.next(), deliveries: rng.next() };
     let (call, buffers) = match part {
         Part::Check => (Call::Check, vec![read_state(rng, number)]),
         Part::Copy => (Call::Copy, vec![read_state(rng, number), written(rng)]),
@@ -51,14 +28,23 @@ pub fn make(part: Part, rng: &mut Rng, number: usize) -> Case {
                 _ => 30,
             };
             let events = inputs::events(rng, network, &table, most, number);
-            (Call::Run, vec![state, table, events])
+            (Call::Run, vec![state, table, events, tally(rng)])
+        }
+        Part::Long => {
+            let (state, table, events) = inputs::long::list(rng, number);
+            (Call::Run, vec![state, table, events, tally(rng)])
         }
         Part::Forward => forward(rng, number),
         Part::Drain => drain(rng, number),
         Part::Image => (Call::Image, vec![image_state(rng, number), written(rng)]),
-        Part::Program => panic!("the program takes an input"),
+        Part::Orders | Part::Program => panic!("no single call"),
     };
-    Case { call, buffers, tally }
+    Case { call, buffers }
+}
+
+/// What the tally holds before a run: anything.
+fn tally(rng: &mut Rng) -> Vec<u8> {
+    tally_bytes(&Tally { produced: rng.next(), forwards: rng.next(), deliveries: rng.next() })
 }
 
 /// For reading, half of the states are damaged.
@@ -90,7 +76,14 @@ fn written(rng: &mut Rng) -> Vec<u8> {
 
 /// A pending pair, a pair that is not pending, an absent peer, or numbers out of range.
 fn forward(rng: &mut Rng, case: usize) -> (Call, Vec<Vec<u8>>) {
-    let (state, network) = inputs::state(rng, case);
+    let (state, network) = match case % 40 {
+        // A message that all the others can get.
+        7 => {
+            let network = networks::about_to_flood(rng);
+            (network.bytes(), network)
+        }
+        _ => inputs::state(rng, case),
+    };
     let table = inputs::table(rng, &network);
     let kind = rng.below(8);
     let absent: Vec<Peer> = all_peers().filter(|peer| !network.present(*peer)).collect();
@@ -140,17 +133,18 @@ fn drain(rng: &mut Rng, case: usize) -> (Call, Vec<Vec<u8>>) {
 }
 
 /// The lengths about every limit that 01 names for the program, and other odd ones.
-const LENGTHS: [usize; 14] =
-    [0, 1, 5119, 5120, 5121, 5375, 5376, 5377, 5391, 5392, 65_535, 65_536, 65_537, 65_552];
+const LENGTHS: [usize; 16] = [
+    0, 1, 5119, 5120, 5121, 5375, 5376, 5377, 5391, 5392, 65_535, 65_536, 65_537, 65_552, 131_073, 1_000_000,
+];
 
 /// "state, then table, then events", cut or prolonged to every length above.
 pub fn program_input(rng: &mut Rng, number: usize) -> Vec<u8> {
-    if number < LENGTHS.len() {
+    if number % 100 < LENGTHS.len() {
         // A good state and table and nothing but skips, so that only the length can be refused.
         let network = networks::any(rng);
         let mut input = network.bytes();
         input.extend(networks::table(rng, &network));
-        input.resize(LENGTHS[number], 0);
+        input.resize(LENGTHS[number % 100], 0);
         return input;
     }
     let (mut input, network) = inputs::state(rng, number);
@@ -161,7 +155,7 @@ pub fn program_input(rng: &mut Rng, number: usize) -> Vec<u8> {
     if rng.chance(9, 10) {
         table.resize(TABLE_SIZE, 0);
     }
-    let most = if number % 20 == 18 { 3700 } else { 30 };
+    let most = if number % 50 == 38 { 3700 } else { 30 };
     let events = inputs::events(rng, network, &table, most, number);
     input.extend(table);
     input.extend(events);
@@ -173,4 +167,20 @@ pub fn program_input(rng: &mut Rng, number: usize) -> Vec<u8> {
         input.resize(length, filler);
     }
     input
+}
+
+/// Where the pieces end in which the input is handed over; none for one that is handed over at once. Some
+/// pieces have a single byte, and half of the ends stand within the first 6,000 bytes.
+pub fn pieces(rng: &mut Rng, length: usize, number: usize) -> Vec<usize> {
+    if number % 7 != 3 || length == 0 {
+        return Vec::new();
+    }
+    let mut ends = Vec::new();
+    for _ in 0..2 + rng.below(5) {
+        let bound = if rng.chance(1, 2) { length } else { length.min(6000) };
+        let end = rng.below(bound as u32 + 1) as usize;
+        ends.extend([end, length.min(end + 1)]);
+    }
+    ends.sort();
+    ends
 }

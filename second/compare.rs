@@ -1,168 +1,183 @@
 //! The comparison: the engine's static library and its run program against the second program's model,
-//! on seeded inputs. Ends with status 0 only if there is no difference and every number was answered.
+//! on seeded inputs. Ends with status 0 only if there is no difference and all that entries.rs lists has
+//! occurred.
 //!
-//!   compare [--self] [--engine WORD.. ';'] [--flood WORD.. ';'] [--seed N] [--percent N]
-//!           [--first] [--case PART NUMBER]
+//!   compare [--self] [--engine WORD.. ';'] [--flood WORD.. ';'] [--fresh WORD] [--seed WORD]
+//!           [--percent N] [--first] [--only PART].. [--case PART NUMBER]
 //!
 //! The engine is the library linked in (`--cfg linked`), or the process that --engine starts; --self puts
-//! the model in its place. --flood is the command of the run program. --percent runs that share of the
-//! cases; --first stops at the first difference; --case runs one case of one part again and prints it.
+//! the model in its place. --flood is the command of the run program. --fresh is a second seed, for a share
+//! of the cases; --seed is the only one, to make a case again. --percent runs that share of the cases and
+//! --only these parts; both ask for no difference alone. --first stops at the first one; --case runs one
+//! case and prints it.
+//! It is a library as well, so that it can be compiled once and linked with many engines.
 
 mod cases;
+mod crash;
+mod details;
+mod entries;
+mod flood;
 mod inputs;
+mod lent;
 #[cfg(linked)]
 mod linked;
 mod model;
+mod options;
+mod orders;
+#[cfg(linked)]
+mod pages;
 mod process;
 mod report;
 mod subject;
 
-use cases::{make, program_input, Case, Part, PARTS};
+use cases::{make, pieces, program_input, Case};
+use entries::{Part, ENTRIES};
 use inputs::rng::Rng;
+use lent::{lend, Lent};
 use model::program;
+use options::{Options, Seed};
 use report::Report;
 use std::time::Instant;
-use subject::{Call, Lent, Model, Reply, Subject};
+use subject::{by_model, tally_of, Model, Reply, Subject};
+
+/// In this many steps each part goes from its first case to its last, all side by side.
+const STEPS: usize = 200;
 
 /// Where two buffers first differ, in words.
-fn first_difference(expected: &[u8], found: &[u8]) -> String {
-    match expected.iter().zip(found).position(|(a, b)| a != b) {
-        Some(at) => format!("byte {at} is {} and should be {}", found[at], expected[at]),
-        None => format!("{} bytes and should be {}", found.len(), expected.len()),
+fn first_difference(name: &str, expected: &[u8], found: &[u8]) -> String {
+    if name == "tally" {
+        return format!("{:?} and should be {:?}", tally_of(found), tally_of(expected));
     }
+    let at = expected.iter().zip(found).position(|(a, b)| a != b).expect("a difference");
+    format!("byte {at} is {} and should be {}", found[at], expected[at])
 }
 
-/// "all buffers, the tally included, stay untouched": every refusal but that of an event in a run.
-fn refused_whole(call: Call, number: u8) -> bool {
-    number != 0 && (call != Call::Run || number <= 5)
-}
-
-/// One case: the same call by the model and by the subject, then every lent byte compared.
-fn compare_case(
-    subject: &mut dyn Subject,
-    case: &Case,
-    shift: usize,
-) -> Result<(Reply, Vec<String>), String> {
-    let mut found_words = Vec::new();
-    let lend = || case.buffers.iter().map(|buffer| Lent::new(buffer, shift)).collect::<Vec<Lent>>();
-    let (mut expected, mut expected_tally) = (lend(), case.tally);
-    let expected_reply = Model.answer(case.call, &mut expected, &mut expected_tally)?;
-    let (mut lent, mut tally) = (lend(), case.tally);
-    let reply = subject.answer(case.call, &mut lent, &mut tally)?;
-
-    if reply != expected_reply {
-        found_words.push(format!("answers {reply:?} and should answer {expected_reply:?}"));
-    }
-    if tally != expected_tally {
-        found_words.push(format!("tally {tally:?} should be {expected_tally:?}"));
-    }
-    for (index, buffer) in lent.iter().enumerate() {
-        if buffer.content() != expected[index].content() {
-            let words = first_difference(expected[index].content(), buffer.content());
-            found_words.push(format!("buffer {index} after {expected_reply:?}: {words}"));
-        }
-        if !buffer.guards_hold() {
-            found_words.push(format!("wrote outside buffer {index}"));
-        }
-        if refused_whole(case.call, reply.number()) && buffer.content() != case.buffers[index] {
-            let words = first_difference(&case.buffers[index], buffer.content());
-            found_words.push(format!("buffer {index} was touched in spite of {reply:?}: {words}"));
-        }
-    }
-    if refused_whole(case.call, reply.number()) && tally != case.tally {
-        found_words.push("the tally was touched in spite of a refusal".to_string());
-    }
-    Ok((expected_reply, found_words))
-}
-
-/// One input of the run program: what it writes, byte for byte.
-fn compare_program(subject: &mut dyn Subject, input: &[u8]) -> Result<(u8, Vec<String>), String> {
-    let (answer, expected) = program::output(input);
-    let found = subject.program(input).expect("a run program")?;
+/// What is wrong with the subject's answer and with each lent byte.
+fn differences(case: &Case, expected: (&Reply, &[Vec<u8>]), found: (&Reply, &[Lent])) -> Vec<String> {
     let mut words = Vec::new();
-    if found != expected {
-        let (found, expected) = (String::from_utf8_lossy(&found), String::from_utf8_lossy(&expected));
-        words.push(format!("writes {found:?} and should write {expected:?}"));
+    let (reply, lent) = found;
+    if reply != expected.0 {
+        words.push(format!("answers {reply:?} and should answer {:?}", expected.0));
     }
-    Ok((answer.number, words))
+    for (index, (name, _)) in case.call.buffers().iter().enumerate() {
+        let (content, wanted) = (lent[index].content(), &expected.1[index]);
+        if content != wanted {
+            let how = first_difference(name, wanted, content);
+            words.push(format!("{name} after {:?}: {how}", expected.0));
+        }
+        if !lent[index].guards_hold() {
+            words.push(format!("writes outside the {name}"));
+        }
+        if case.call.refused_whole(reply.number()) && content != case.buffers[index] {
+            let how = first_difference(name, &case.buffers[index], content);
+            words.push(format!("touches the {name} in spite of {reply:?}: {how}"));
+        }
+    }
+    words
 }
 
-/// Makes and compares one case. An error is a subject that broke down.
-fn run_case(
-    subject: &mut dyn Subject,
-    report: &mut Report,
-    seed: u64,
-    (part, number): (usize, usize),
+struct Comparison {
+    subject: Box<dyn Subject>,
+    report: Report,
     show: bool,
-) -> Result<(), String> {
-    let mut rng = Rng::for_case(seed, part as u64, number as u64);
-    let (kind, name, _, _) = PARTS[part];
-    let words = if kind == Part::Program {
-        let input = program_input(&mut rng, number);
-        if show {
-            println!("input of {} bytes, expected {:?}", input.len(), program::output(&input).0);
-        }
-        let (answered, words) = compare_program(subject, &input)?;
-        report.count(part, answered);
-        words
-    } else {
-        let case = make(kind, &mut rng, number);
-        if show {
-            show_case(&case);
-        }
-        let (reply, words) = compare_case(subject, &case, number % 8)?;
-        report.count(part, reply.number());
-        if reply.number() == 5 {
-            report.count_unsound(&case.buffers[0], reply.place());
-        }
-        words
-    };
-    for line in words {
-        report.difference(name, number, &line);
+}
+
+impl Comparison {
+    /// One case: the same call by the model and by the subject, then every lent byte compared.
+    fn call(&mut self, case: &Case, part: usize, rng: &mut Rng) -> Result<Vec<String>, String> {
+        let mut after = case.buffers.clone();
+        let mut views: Vec<&mut [u8]> = after.iter_mut().map(Vec::as_mut_slice).collect();
+        let expected = by_model(case.call, &mut views);
+        let mut lent = lend(rng, case.call, &case.buffers, case.call.refused_whole(expected.number()));
+        self.report.count_lent(&lent);
+        crash::call();
+        let reply = self.subject.answer(case.call, &mut lent)?;
+        self.report.count(part, expected.number(), details::of_call(case, &expected, &after));
+        Ok(differences(case, (&expected, &after), (&reply, &lent)))
     }
-    Ok(())
+
+    /// One input of the run program: what it writes, byte for byte.
+    fn program(&mut self, input: &[u8], pieces: &[usize], part: usize) -> Result<Vec<String>, String> {
+        let (answer, expected) = program::output(input);
+        crash::call();
+        let found = self.subject.program(input, pieces).expect("a run program")?;
+        let details = details::of_input(input, pieces, answer.number, &expected);
+        self.report.count(part, answer.number, details);
+        if found == expected {
+            return Ok(Vec::new());
+        }
+        let (found, expected) = (String::from_utf8_lossy(&found), String::from_utf8_lossy(&expected));
+        Ok(vec![format!("writes {found:?} and should write {expected:?}")])
+    }
+
+    /// One input of the drains, through the subject alone.
+    fn orders(&mut self, seed: &Seed, number: usize, part: usize) -> Vec<String> {
+        let drains = ENTRIES.iter().position(|entry| entry.part == Part::Drain).expect("drains");
+        match orders::try_input(self.subject.as_mut(), seed.number, drains, number) {
+            Ok(forwards) => {
+                self.report.count(part, 0, details::of_orders(forwards));
+                Vec::new()
+            }
+            Err(words) => vec![words],
+        }
+    }
+
+    /// Makes and compares one case. An error is a subject that broke down.
+    fn case(&mut self, seed: &Seed, part: usize, number: usize) -> Result<(), String> {
+        let entry = &ENTRIES[part];
+        let name = format!("{} case {number} of seed {}", entry.name, seed.word);
+        crash::case(&name);
+        let mut rng = Rng::for_case(seed.number, part as u64, number as u64);
+        let start = Instant::now();
+        let words = match entry.part {
+            Part::Program => {
+                let input = program_input(&mut rng, number);
+                let pieces = pieces(&mut rng, input.len(), number);
+                if self.show {
+                    println!("{} bytes, {:?}", input.len(), program::output(&input).0);
+                }
+                self.program(&input, &pieces, part)
+            }
+            Part::Orders => Ok(self.orders(seed, number, part)),
+            kind => {
+                let case = make(kind, &mut rng, number);
+                if self.show {
+                    show_case(&case);
+                }
+                self.call(&case, part, &mut rng)
+            }
+        };
+        for line in words.map_err(|words| format!("{name}: {words}"))? {
+            self.report.difference(part, &name, &line);
+        }
+        self.report.times[part] += start.elapsed();
+        Ok(())
+    }
+
+    /// A share of the cases of every part that is to run, the parts side by side.
+    fn all(&mut self, seed: &Seed, percent: usize, ran: &[bool], first: bool) -> Result<(), String> {
+        let share = percent * seed.share;
+        for step in 0..STEPS {
+            for (part, entry) in ENTRIES.iter().enumerate().filter(|(part, _)| ran[*part]) {
+                let count = entry.cases * share / 10_000;
+                for number in count * step / STEPS..count * (step + 1) / STEPS {
+                    self.case(seed, part, number)?;
+                    if first && self.report.differences > 0 {
+                        return Ok(());
+                    }
+                }
+            }
+        }
+        Ok(())
+    }
 }
 
 fn show_case(case: &Case) {
-    println!("{:?}, tally before {:?}", case.call, case.tally);
-    for (index, buffer) in case.buffers.iter().enumerate() {
+    println!("{:?}", case.call);
+    for (buffer, (name, _)) in case.buffers.iter().zip(case.call.buffers()) {
         let hex: Vec<String> = buffer.iter().map(|byte| format!("{byte:02x}")).collect();
-        println!("buffer {index}, {} bytes: {}", buffer.len(), hex.concat());
+        println!("{name}, {} bytes: {}", buffer.len(), hex.concat());
     }
-}
-
-#[derive(Default)]
-struct Options {
-    itself: bool,
-    first: bool,
-    engine: Option<Vec<String>>,
-    flood: Option<Vec<String>>,
-    seed: u64,
-    percent: usize,
-    case: Option<(usize, usize)>,
-}
-
-fn options() -> Result<Options, String> {
-    let mut options = Options { seed: 20_260_101, percent: 100, ..Options::default() };
-    let mut words = std::env::args().skip(1);
-    let number = |text: String| text.parse::<u64>().map_err(|error| format!("{text}: {error}"));
-    while let Some(word) = words.next() {
-        match word.as_str() {
-            "--self" => options.itself = true,
-            "--first" => options.first = true,
-            "--engine" => options.engine = Some(words.by_ref().take_while(|word| word != ";").collect()),
-            "--flood" => options.flood = Some(words.by_ref().take_while(|word| word != ";").collect()),
-            "--seed" => options.seed = number(words.next().unwrap_or_default())?,
-            "--percent" => options.percent = number(words.next().unwrap_or_default())? as usize,
-            "--case" => {
-                let name = words.next().unwrap_or_default();
-                let part = PARTS.iter().position(|part| part.1 == name).ok_or(format!("no part {name}"))?;
-                options.case = Some((part, number(words.next().unwrap_or_default())? as usize));
-            }
-            _ => return Err(format!("unknown word {word}")),
-        }
-    }
-    Ok(options)
 }
 
 fn subject(options: &Options) -> Result<Box<dyn Subject>, String> {
@@ -170,50 +185,54 @@ fn subject(options: &Options) -> Result<Box<dyn Subject>, String> {
         return Ok(Box::new(Model));
     }
     if let Some(command) = &options.engine {
+        println!("compare: the engine as a process");
         return Ok(Box::new(process::Process::start(command, options.flood.clone())?));
     }
     #[cfg(linked)]
-    return Ok(Box::new(linked::Linked { flood: options.flood.clone() }));
+    {
+        println!("compare: the engine linked as a static library");
+        Ok(Box::new(linked::Linked::new(options.flood.clone())))
+    }
     #[cfg(not(linked))]
     Err("built without the library: --engine or --self is needed".to_string())
 }
 
 /// Runs the comparison. True if all is well.
 fn compare() -> Result<bool, String> {
-    let options = options()?;
-    let mut subject = subject(&options)?;
-    let mut report = Report::new();
-    if let Some(case) = options.case {
-        run_case(subject.as_mut(), &mut report, options.seed, case, true)?;
-        return Ok(report.differences == 0);
+    let options = Options::read(std::env::args().skip(1))?;
+    crash::watch();
+    let show = options.case.is_some();
+    let mut comparison = Comparison { subject: subject(&options)?, report: Report::new(), show };
+    if let Some((part, number)) = options.case {
+        comparison.case(&options.seeds[0], part, number)?;
+        return Ok(comparison.report.differences == 0);
     }
-    println!("seed {}, {} percent of the cases", options.seed, options.percent);
+    let ran = ENTRIES.map(|entry| options.runs(&entry));
     let start = Instant::now();
-    let mut ran = [true; PARTS.len()];
-    for (index, (part, name, count, _)) in PARTS.iter().enumerate() {
-        if *part == Part::Program && !options.itself && options.flood.is_none() {
-            println!("{name}: SKIPPED, no run program was given");
-            ran[index] = false;
-            continue;
+    for seed in &options.seeds {
+        println!("seed {}, {} percent of the cases", seed.word, options.percent * seed.share / 100);
+        comparison.all(seed, options.percent, &ran, options.first)?;
+        if options.first && comparison.report.differences > 0 {
+            return Ok(false);
         }
-        let (count, start) = (count * options.percent / 100, Instant::now());
-        for number in 0..count {
-            run_case(subject.as_mut(), &mut report, options.seed, (index, number), false)
-                .map_err(|words| format!("{name} case {number}: {words}"))?;
-            if options.first && report.differences > 0 {
-                return Ok(false);
-            }
-        }
-        println!("{name}: {count} cases in {:.1} s", start.elapsed().as_secs_f64());
     }
-    let complete = report.print(&ran);
-    println!("{:.1} s in all", start.elapsed().as_secs_f64());
-    Ok(complete && report.differences == 0)
+    let report = comparison.report;
+    report.print(&ran);
+    let times = ENTRIES.iter().zip(&report.times);
+    let times: Vec<String> =
+        times.map(|(entry, time)| format!("{} {:.1}", entry.name, time.as_secs_f64())).collect();
+    println!("{:.1} s in all: {}", start.elapsed().as_secs_f64(), times.join(", "));
+    for (entry, _) in ENTRIES.iter().zip(ran).filter(|(_, ran)| !ran) {
+        println!("{}: NOT RUN", entry.name);
+    }
+    // Of a share of the cases only this is asked: no difference.
+    let whole = options.percent >= 100 && options.only.is_empty();
+    Ok((!whole || report.complete(&ran)) && report.differences == 0)
 }
 
-fn main() {
+pub fn main() {
     match compare() {
-        Ok(true) => println!("compare: no difference, every number answered"),
+        Ok(true) => println!("compare: no difference"),
         Ok(false) => {
             println!("compare: FAILED");
             std::process::exit(1);

@@ -2,7 +2,9 @@
 
 pub mod damage;
 pub mod lists;
+pub mod long;
 pub mod networks;
+pub mod refusals;
 pub mod rng;
 
 use crate::model::events::{Table, TABLE_SIZE};

@@ -1,16 +1,14 @@
 //! The engine's static library linked into the comparison, for a host that the library is compiled for.
-//! A `&[u8]` or `&mut [u8]` of the engine passes as pointer, then length; its structs are repr(C).
+//! A `&[u8]` or `&mut [u8]` of the engine passes as pointer, then length; its structs are repr(C). Which
+//! library it is, the last step of linking says (run.sh, mutants.sh).
 
-use crate::model::{Answer, Checked, Drained, Forwarded, Tally};
-use crate::process;
-use crate::subject::{Call, Lent, Reply, Subject};
-
-#[repr(C)]
-struct CTally {
-    produced: u64,
-    forwards: u64,
-    deliveries: u64,
-}
+use crate::crash;
+use crate::flood;
+use crate::lent::Lent;
+use crate::model::{Answer, Checked, Drained, Forwarded};
+use crate::pages::Pages;
+use crate::process::truth;
+use crate::subject::{Call, Reply, Subject};
 
 #[repr(C)]
 struct CAnswer {
@@ -42,7 +40,6 @@ struct CChecked {
     place: usize,
 }
 
-#[link(name = "engine", kind = "static")]
 extern "C" {
     fn relay_run(
         state: *mut u8,
@@ -51,7 +48,7 @@ extern "C" {
         table_length: usize,
         events: *const u8,
         events_length: usize,
-        tally: *mut CTally,
+        tally: *mut u64,
     ) -> CAnswer;
     fn relay_forward(
         state: *mut u8,
@@ -73,49 +70,62 @@ extern "C" {
     fn relay_copy(from: *const u8, from_length: usize, to: *mut u8, to_length: usize) -> CChecked;
 }
 
-/// The engine, with the command of its run program if there is one.
+/// The engine, pages for its buffers, and the command of its run program if there is one.
 pub struct Linked {
-    pub flood: Option<Vec<String>>,
+    pages: [Pages; 4],
+    flood: Option<Vec<String>>,
+}
+
+impl Linked {
+    pub fn new(flood: Option<Vec<String>>) -> Linked {
+        Linked { pages: [Pages::new(), Pages::new(), Pages::new(), Pages::new()], flood }
+    }
 }
 
 impl Subject for Linked {
-    fn answer(&mut self, call: Call, lent: &mut [Lent], tally: &mut Tally) -> Result<Reply, String> {
-        let part = |buffer: &mut Lent| (buffer.lend().as_mut_ptr(), buffer.length);
-        let parts: Vec<(*mut u8, usize)> = lent.iter_mut().map(part).collect();
-        // Each pointer is that of a live slice with its own length, and no two overlap.
-        Ok(unsafe {
-            match (call, parts.as_slice()) {
-                (Call::Check, [(state, a)]) => checked(relay_check(*state, *a)),
-                (Call::Copy, [(from, a), (to, b)]) => checked(relay_copy(*from, *a, *to, *b)),
-                (Call::Run, [(state, a), (table, b), (events, c)]) => {
-                    let Tally { produced, forwards, deliveries } = *tally;
-                    let mut lent_tally = CTally { produced, forwards, deliveries };
-                    let answer = relay_run(*state, *a, *table, *b, *events, *c, &mut lent_tally);
-                    let CTally { produced, forwards, deliveries } = lent_tally;
-                    *tally = Tally { produced, forwards, deliveries };
-                    let CAnswer { number, place, accepted } = answer;
-                    Reply::Answer(Answer { number, place, accepted })
-                }
-                (Call::Forward { peer, message }, [(state, a), (table, b)]) => {
-                    let answer = relay_forward(*state, *a, *table, *b, peer, message);
-                    let CForwarded { number, place, deliveries } = answer;
-                    Reply::Forwarded(Forwarded { number, place, deliveries })
-                }
-                (Call::Drain { budget }, [(state, a), (table, b)]) => {
-                    let answer = relay_drain(*state, *a, *table, *b, budget);
-                    let CDrained { number, place, forwards, rounds, quiet } = answer;
-                    let quiet = process::truth(u64::from(quiet))?;
-                    Reply::Drained(Drained { number, place, forwards, rounds, quiet })
-                }
-                (Call::Image, [(state, a), (image, b)]) => checked(relay_image(*state, *a, *image, *b)),
-                _ => panic!("a call with the wrong number of buffers"),
-            }
-        })
+    fn answer(&mut self, call: Call, lent: &mut [Lent]) -> Result<Reply, String> {
+        let mut parts = Vec::new();
+        for (index, buffer) in lent.iter().enumerate() {
+            let start = self.pages[index].lay(buffer);
+            crash::lies(index, start, buffer.length);
+            parts.push((start, buffer.length));
+        }
+        // Each pointer is that of live bytes of its own with their length, and no two overlap.
+        let reply = unsafe { make_call(call, &parts) };
+        for (buffer, pages) in lent.iter_mut().zip(&mut self.pages) {
+            pages.take_back(buffer);
+        }
+        reply
     }
 
-    fn program(&mut self, input: &[u8]) -> Option<Result<Vec<u8>, String>> {
-        self.flood.as_ref().map(|command| process::run_program(command, input))
+    fn program(&mut self, input: &[u8], pieces: &[usize]) -> Option<Result<Vec<u8>, String>> {
+        self.flood.as_ref().map(|command| flood::run(command, input, pieces))
     }
+}
+
+unsafe fn make_call(call: Call, parts: &[(*mut u8, usize)]) -> Result<Reply, String> {
+    Ok(match (call, parts) {
+        (Call::Check, [(state, a)]) => checked(relay_check(*state, *a)),
+        (Call::Copy, [(from, a), (to, b)]) => checked(relay_copy(*from, *a, *to, *b)),
+        (Call::Run, [(state, a), (table, b), (events, c), (tally, _)]) => {
+            let answer = relay_run(*state, *a, *table, *b, *events, *c, tally.cast());
+            let CAnswer { number, place, accepted } = answer;
+            Reply::Answer(Answer { number, place, accepted })
+        }
+        (Call::Forward { peer, message }, [(state, a), (table, b)]) => {
+            let answer = relay_forward(*state, *a, *table, *b, peer, message);
+            let CForwarded { number, place, deliveries } = answer;
+            Reply::Forwarded(Forwarded { number, place, deliveries })
+        }
+        (Call::Drain { budget }, [(state, a), (table, b)]) => {
+            let answer = relay_drain(*state, *a, *table, *b, budget);
+            let CDrained { number, place, forwards, rounds, quiet } = answer;
+            let quiet = truth(u64::from(quiet))?;
+            Reply::Drained(Drained { number, place, forwards, rounds, quiet })
+        }
+        (Call::Image, [(state, a), (image, b)]) => checked(relay_image(*state, *a, *image, *b)),
+        _ => panic!("a call with the wrong number of buffers"),
+    })
 }
 
 fn checked(answer: CChecked) -> Reply {

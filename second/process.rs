@@ -1,10 +1,13 @@
 //! The engine as a process (shim.c with the static library), for a host that the library is not compiled
-//! for, and the run program as a process.
+//! for.
 
-use crate::model::{Answer, Checked, Drained, Forwarded, Tally};
-use crate::subject::{Call, Lent, Reply, Subject};
-use std::io::{ErrorKind, Read, Write};
-use std::process::{Child, ChildStdin, ChildStdout, Command, Stdio};
+use crate::crash;
+use crate::flood;
+use crate::lent::Lent;
+use crate::model::{Answer, Checked, Drained, Forwarded};
+use crate::subject::{Call, Reply, Subject};
+use std::io::{Read, Write};
+use std::process::{Child, ChildStdin, ChildStdout};
 
 /// The engine behind its shim, with the command of its run program if there is one.
 pub struct Process {
@@ -16,32 +19,33 @@ pub struct Process {
 
 impl Process {
     pub fn start(command: &[String], flood: Option<Vec<String>>) -> Result<Process, String> {
-        let mut child = spawn(command)?;
+        let mut child = flood::spawn(command)?;
+        crash::started(crash::ENGINE, child.id());
         let requests = child.stdin.take().expect("a pipe");
         let replies = child.stdout.take().expect("a pipe");
         Ok(Process { child, requests, replies, flood })
     }
 
-    /// A request is 16 numbers: the call, two arguments, the count of buffers, for each of three buffers
-    /// its whole length, its start and its length, and the tally; then the buffers with their guards. A
-    /// reply is 8 numbers: number, place, three more, and the tally; then the same buffers.
-    fn exchange(&mut self, head: [u64; 16], lent: &mut [Lent]) -> std::io::Result<[u64; 8]> {
+    /// A request is 20 numbers: the call, two arguments, the count of buffers, and for each of four buffers
+    /// its whole length, its start, its length and whether it is locked; then the buffers with their
+    /// guards. A reply is 5 numbers: number, place and three more; then the same buffers.
+    fn exchange(&mut self, head: [u64; 20], lent: &mut [Lent]) -> std::io::Result<[u64; 5]> {
         let mut request: Vec<u8> = head.iter().flat_map(|number| number.to_le_bytes()).collect();
         lent.iter().for_each(|buffer| request.extend(&buffer.whole));
         self.requests.write_all(&request)?;
         self.requests.flush()?;
-        let mut bytes = [0; 64];
+        let mut bytes = [0; 40];
         self.replies.read_exact(&mut bytes)?;
         for buffer in lent {
             self.replies.read_exact(&mut buffer.whole)?;
         }
         let number = |i: usize| u64::from_le_bytes(bytes[8 * i..8 * i + 8].try_into().expect("8 bytes"));
-        Ok([0, 1, 2, 3, 4, 5, 6, 7].map(number))
+        Ok([0, 1, 2, 3, 4].map(number))
     }
 }
 
 impl Subject for Process {
-    fn answer(&mut self, call: Call, lent: &mut [Lent], tally: &mut Tally) -> Result<Reply, String> {
+    fn answer(&mut self, call: Call, lent: &mut [Lent]) -> Result<Reply, String> {
         let (code, first, second) = match call {
             Call::Check => (0, 0, 0),
             Call::Copy => (1, 0, 0),
@@ -50,21 +54,20 @@ impl Subject for Process {
             Call::Drain { budget } => (4, u64::from(budget), 0),
             Call::Image => (5, 0, 0),
         };
-        let mut head = [0; 16];
+        let mut head = [0; 20];
         head[..4].copy_from_slice(&[code, first, second, lent.len() as u64]);
-        for (buffer, place) in lent.iter().zip([4, 7, 10]) {
-            let numbers = [buffer.whole.len(), buffer.start, buffer.length].map(|number| number as u64);
-            head[place..place + 3].copy_from_slice(&numbers);
+        for (buffer, place) in lent.iter().zip([4, 8, 12, 16]) {
+            let numbers = [buffer.whole.len(), buffer.start, buffer.length, usize::from(buffer.locked)];
+            head[place..place + 4].copy_from_slice(&numbers.map(|number| number as u64));
         }
-        head[13..].copy_from_slice(&[tally.produced, tally.forwards, tally.deliveries]);
         let reply = match self.exchange(head, lent) {
             Ok(reply) => reply,
             Err(error) => {
-                let end = self.child.try_wait().ok().flatten();
+                let end = self.child.wait();
+                crash::started(crash::ENGINE, 0);
                 return Err(format!("the engine's process broke down: {error}, {end:?}"));
             }
         };
-        *tally = Tally { produced: reply[5], forwards: reply[6], deliveries: reply[7] };
         let (number, place) = (reply[0] as u8, reply[1] as usize);
         Ok(match call {
             Call::Check | Call::Copy | Call::Image => Reply::Checked(Checked { number, place }),
@@ -79,8 +82,8 @@ impl Subject for Process {
         })
     }
 
-    fn program(&mut self, input: &[u8]) -> Option<Result<Vec<u8>, String>> {
-        self.flood.as_ref().map(|command| run_program(command, input))
+    fn program(&mut self, input: &[u8], pieces: &[usize]) -> Option<Result<Vec<u8>, String>> {
+        self.flood.as_ref().map(|command| flood::run(command, input, pieces))
     }
 }
 
@@ -97,26 +100,5 @@ pub fn truth(byte: u64) -> Result<bool, String> {
         0 => Ok(false),
         1 => Ok(true),
         _ => Err(format!("the engine answers a bool that is {byte}")),
-    }
-}
-
-fn spawn(command: &[String]) -> Result<Child, String> {
-    let (program, words) = command.split_first().ok_or("an empty command")?;
-    let started = Command::new(program).args(words).stdin(Stdio::piped()).stdout(Stdio::piped()).spawn();
-    started.map_err(|error| format!("cannot start {program}: {error}"))
-}
-
-/// Runs the program on this standard input and answers its standard output. What it writes is short, so
-/// all input can be handed over first; a program may stop reading once it has more than 65,536 bytes.
-pub fn run_program(command: &[String], input: &[u8]) -> Result<Vec<u8>, String> {
-    let mut child = spawn(command)?;
-    match child.stdin.take().expect("a pipe").write_all(input) {
-        Err(error) if error.kind() != ErrorKind::BrokenPipe => return Err(format!("cannot write: {error}")),
-        _ => (),
-    }
-    let output = child.wait_with_output().map_err(|error| format!("cannot wait: {error}"))?;
-    match output.status.code() {
-        Some(_) => Ok(output.stdout),
-        None => Err(format!("ended by a signal: {}", output.status)),
     }
 }

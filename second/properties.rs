@@ -1,8 +1,9 @@
 //! General statements of 00 and 01, tested on the model for seeded networks.
 
 use crate::inputs::damage::{exact, EXACT};
-use crate::inputs::lists::{accepted, refused, Mood};
+use crate::inputs::lists::{accepted, Mood};
 use crate::inputs::networks::{any, longest, table};
+use crate::inputs::refusals::refused;
 use crate::inputs::rng::Rng;
 use crate::inputs::table_or_zero;
 use crate::model::calls::{drain_network, image_of, round};

@@ -1,84 +1,114 @@
-//! The counts of each part and number, and the differences found.
+//! The counts of each part, number and detail, and the differences found.
 
-use crate::cases::PARTS;
-use crate::model::state::{Fault, Network, STATE_SIZE};
+use crate::details::Detail;
+use crate::entries::{ENTRIES, NUMBERS};
+use crate::lent::{Lent, Place};
 use std::collections::BTreeMap;
+use std::time::Duration;
 
 #[derive(Default)]
 pub struct Report {
     /// By part and number: how often it was answered.
-    counts: Vec<[u64; 19]>,
-    /// Unsound states by the broken rule of their lowest unsound record.
-    faults: BTreeMap<Fault, u64>,
-    /// Unsound states by place: record 0, record 31, another.
-    places: [u64; 3],
+    counts: Vec<[u64; NUMBERS]>,
+    /// By part and detail: how often it occurred.
+    details: Vec<BTreeMap<String, u64>>,
+    /// By part: the time that it took.
+    pub times: Vec<Duration>,
+    /// Buffers at the end of a page, at the start of one, between guards; and locked ones.
+    lent: [u64; 4],
     pub differences: u64,
     /// By part: how many were found, of which the first few are printed.
-    found: BTreeMap<String, u64>,
+    found: BTreeMap<&'static str, u64>,
 }
 
 impl Report {
     pub fn new() -> Report {
-        Report { counts: vec![[0; 19]; PARTS.len()], ..Report::default() }
-    }
-
-    pub fn count(&mut self, part: usize, number: u8) {
-        self.counts[part][number as usize] += 1;
-    }
-
-    /// For an answer of 5: which rule was broken, and where.
-    pub fn count_unsound(&mut self, state: &[u8], place: usize) {
-        if state.len() == STATE_SIZE {
-            if let Some((_, fault)) = Network::parse(state).lowest_unsound() {
-                *self.faults.entry(fault).or_insert(0) += 1;
-            }
+        let parts = ENTRIES.len();
+        Report {
+            counts: vec![[0; NUMBERS]; parts],
+            details: vec![BTreeMap::new(); parts],
+            times: vec![Duration::ZERO; parts],
+            ..Report::default()
         }
-        self.places[match place {
-            0 => 0,
-            31 => 1,
-            _ => 2,
-        }] += 1;
     }
 
-    pub fn difference(&mut self, part: &str, case: usize, words: &str) {
+    pub fn count(&mut self, part: usize, number: u8, details: Vec<Detail>) {
+        self.counts[part][number as usize] += 1;
+        for (words, times) in details {
+            *self.details[part].entry(words).or_insert(0) += times;
+        }
+    }
+
+    pub fn count_lent(&mut self, lent: &[Lent]) {
+        for buffer in lent {
+            self.lent[match buffer.place {
+                Place::AtTheEnd => 0,
+                Place::AtTheStart => 1,
+                Place::Between => 2,
+            }] += 1;
+            self.lent[3] += u64::from(buffer.locked);
+        }
+    }
+
+    /// `case` is the seed, the part and the number.
+    pub fn difference(&mut self, part: usize, case: &str, words: &str) {
         self.differences += 1;
-        let found = self.found.entry(part.to_string()).or_insert(0);
+        let found = self.found.entry(ENTRIES[part].name).or_insert(0);
         *found += 1;
         if *found <= 4 {
-            println!("DIFFERENCE {part} case {case}: {words}");
+            println!("DIFFERENCE {case}: {words}");
         }
     }
 
-    /// Prints the counts. True if every part that ran answered every number it can, and no other.
-    pub fn print(&self, ran: &[bool]) -> bool {
-        let mut complete = true;
+    /// Prints all counts, for the parts that ran.
+    pub fn print(&self, ran: &[bool]) {
+        self.print_numbers();
+        for (index, entry) in ENTRIES.iter().enumerate().filter(|(index, _)| ran[*index]) {
+            let found = self.details[index].iter();
+            let listed: Vec<String> = found.map(|(words, count)| format!("{words} {count}")).collect();
+            println!("{}: {}", entry.name, listed.join(", "));
+        }
+        let [end, start, between, locked] = self.lent;
+        println!("buffers lent: {end} at the end of a page, {start} at its start, {between} between guards");
+        println!("locked while lent: {locked}");
+        let cases: u64 = self.counts.iter().flatten().sum();
+        println!("{cases} cases, {} differences", self.differences);
+    }
+
+    fn print_numbers(&self) {
         print!("{:>8}", "number");
-        PARTS.iter().for_each(|part| print!("{:>9}", part.1));
+        ENTRIES.iter().for_each(|entry| print!("{:>9}", entry.name));
         println!("{:>9}", "all");
-        for number in 0..19 {
+        for number in 0..NUMBERS {
             print!("{number:>8}");
-            for (index, (_, name, _, possible)) in PARTS.iter().enumerate() {
-                let count = self.counts[index][number];
-                let can = possible.contains(&(number as u8));
-                if can {
-                    print!("{count:>9}")
+            for (index, entry) in ENTRIES.iter().enumerate() {
+                if entry.numbers.contains(&(number as u8)) {
+                    print!("{:>9}", self.counts[index][number])
                 } else {
                     print!("{:>9}", "-")
-                }
-                if ran[index] && can != (count > 0) {
-                    complete = false;
-                    eprintln!("number {number} of {name}: answered {count} times");
                 }
             }
             println!("{:>9}", self.counts.iter().map(|part| part[number]).sum::<u64>());
         }
-        println!("unsound by rule: {:?}", self.faults);
-        println!(
-            "unsound at record 0: {}, 31: {}, another: {}",
-            self.places[0], self.places[1], self.places[2]
-        );
-        let cases: u64 = self.counts.iter().flatten().sum();
-        println!("{cases} cases, {} differences", self.differences);
-        complete && self.faults.len() == 8
+    }
+
+    /// Did every part that ran answer each number it can often enough and no other, and did all its details
+    /// occur? Says what is missing.
+    pub fn complete(&self, ran: &[bool]) -> bool {
+        let mut missing = Vec::new();
+        for (index, entry) in ENTRIES.iter().enumerate().filter(|(index, _)| ran[*index]) {
+            for number in 0..NUMBERS {
+                let count = self.counts[index][number];
+                let can = entry.numbers.contains(&(number as u8));
+                if can && count < entry.least || !can && count > 0 {
+                    missing.push(format!("number {number} of {}: {count} times", entry.name));
+                }
+            }
+            let occurred = |words: &str| self.details[index].contains_key(words);
+            let absent = entry.details.iter().copied().flatten().filter(|words| !occurred(words));
+            missing.extend(absent.map(|words| format!("{}: \"{words}\" did not occur", entry.name)));
+        }
+        missing.iter().for_each(|words| println!("{words}"));
+        missing.is_empty()
     }
 }

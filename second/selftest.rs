@@ -152,6 +152,13 @@ fn refusals_in_order() {
     assert_eq!(try_run(&unsound, &bad_row, &[9; 16]), (4, 63));
     // Record 1 lists nobody now: its known subscribers are wrong, but record 0 lists it and is the lowest.
     assert_eq!(try_run(&unsound, &zero_row, &[9; 16]), (5, 0));
+    refused_forwards(&good, &unsound, &bad_row);
+    refused_copies(&good, &unsound);
+    println!("refusals of lent bytes: in 01's order, buffers untouched");
+}
+
+fn refused_forwards(good: &[u8], unsound: &[u8], bad_row: &[u8]) {
+    let zero_row = [0; 256];
     let try_forward = |state: &[u8], table: &[u8], peer, message| {
         let mut lent = state.to_vec();
         let Forwarded { number, place, deliveries } = forward(&mut lent, table, peer, message);
@@ -159,28 +166,30 @@ fn refusals_in_order() {
         (number, place)
     };
     assert_eq!(try_forward(&unsound[1..], &bad_row[1..], 32, 64), (1, 0));
-    assert_eq!(try_forward(&unsound, &bad_row[1..], 32, 64), (2, 0));
-    assert_eq!(try_forward(&unsound, &bad_row, 32, 64), (4, 63));
-    assert_eq!(try_forward(&unsound, &zero_row, 32, 64), (5, 0));
-    assert_eq!(try_forward(&good, &zero_row, 32, 5), (7, 0));
-    assert_eq!(try_forward(&good, &zero_row, 3, 64), (7, 0));
-    assert_eq!(try_forward(&good, &zero_row, 3, 5), (8, 0));
-    assert_eq!(try_forward(&good, &zero_row, 1, 5), (13, 0));
-    let done = forward(&mut good.clone(), &zero_row, 0, 5);
+    assert_eq!(try_forward(unsound, &bad_row[1..], 32, 64), (2, 0));
+    assert_eq!(try_forward(unsound, bad_row, 32, 64), (4, 63));
+    assert_eq!(try_forward(unsound, &zero_row, 32, 64), (5, 0));
+    assert_eq!(try_forward(good, &zero_row, 32, 5), (7, 0));
+    assert_eq!(try_forward(good, &zero_row, 3, 64), (7, 0));
+    assert_eq!(try_forward(good, &zero_row, 3, 5), (8, 0));
+    assert_eq!(try_forward(good, &zero_row, 1, 5), (13, 0));
+    let done = forward(&mut good.to_vec(), &zero_row, 0, 5);
     assert_eq!(done, Forwarded { number: 0, place: 0, deliveries: 1 });
+}
+
+fn refused_copies(good: &[u8], unsound: &[u8]) {
     let untouched = |number, place, call: &dyn Fn(&mut [u8]) -> Checked, length: usize| {
         let mut lent = vec![7; length];
         assert_eq!(call(&mut lent), Checked { number, place });
         assert!(lent.iter().all(|byte| *byte == 7), "untouched");
     };
     untouched(1, 0, &|lent| image(&unsound[1..], lent), 5119);
-    untouched(5, 0, &|lent| image(&unsound, lent), 5119);
-    untouched(18, 0, &|lent| image(&good, lent), 5119);
+    untouched(5, 0, &|lent| image(unsound, lent), 5119);
+    untouched(18, 0, &|lent| image(good, lent), 5119);
     untouched(1, 0, &|lent| copy(&unsound[1..], lent), 5120);
-    untouched(5, 0, &|lent| copy(&unsound, lent), 5119);
-    untouched(1, 0, &|lent| copy(&good, lent), 5121);
-    assert_eq!(check(&good), Checked { number: 0, place: 0 });
-    println!("refusals of lent bytes: in 01's order, buffers untouched");
+    untouched(5, 0, &|lent| copy(unsound, lent), 5119);
+    untouched(1, 0, &|lent| copy(good, lent), 5121);
+    assert_eq!(check(good), Checked { number: 0, place: 0 });
 }
 
 fn main() {

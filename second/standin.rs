@@ -1,5 +1,5 @@
 //! A stand-in for the engine's static library: the same C functions, done by the model. It tries the
-//! comparison's own machinery and carries the planted slips of mutants.sh; it is no part of the gate.
+//! comparison's own machinery and carries the planted slips of slips.sh.
 
 mod model;
 
@@ -34,9 +34,13 @@ pub unsafe extern "C" fn relay_run(
     let state = from_raw_parts_mut(state, state_length);
     let table = from_raw_parts(table, table_length);
     let events = from_raw_parts(events, events_length);
-    let mut own = Tally { produced: (*tally).0, forwards: (*tally).1, deliveries: (*tally).2 };
+    let before = Tally { produced: (*tally).0, forwards: (*tally).1, deliveries: (*tally).2 };
+    let mut own = before;
     let Answer { number, place, accepted } = calls::run(state, table, events, &mut own);
-    *tally = CTally(own.produced, own.forwards, own.deliveries);
+    // A tally that stays as it is stays untouched.
+    if own != before {
+        *tally = CTally(own.produced, own.forwards, own.deliveries);
+    }
     CAnswer(number, place, accepted)
 }
 

@@ -3,7 +3,7 @@
 use super::networks::{any, built, full, link, tie};
 use super::rng::Rng;
 use crate::model::events::TABLE_SIZE;
-use crate::model::state::{all_peers, all_topics, Fault, Message, Network, Peer, Topic};
+use crate::model::state::{all_peers, all_topics, Fault, Message, Network, Peer, Record, Topic};
 
 /// A fault of one record alone, everything else in the network being sound.
 #[derive(Clone, Copy, Debug, PartialEq, Eq)]
@@ -100,17 +100,7 @@ fn spoil(rng: &mut Rng, network: &mut Network, rule: Exact, pair: (Peer, Peer), 
         Exact::GapOfAbsent | Exact::GapOfPresent => {
             network.at_mut(p).gap[rng.below(3) as usize] = 1 << rng.below(8);
         }
-        Exact::AbsentNotBlank => {
-            let record = network.at_mut(p);
-            match rng.below(6) {
-                0 => drop(record.pubs.insert(t)),
-                1 => drop(record.subs.insert(t)),
-                2 => drop(record.neighbours.insert(q)),
-                3 => drop(record.pending.insert(m)),
-                4 => drop(record.seen.insert(m)),
-                _ => record.learn(t, q),
-            }
-        }
+        Exact::AbsentNotBlank => leave_something(rng, network.at_mut(p), q, t, m),
         Exact::OwnNeighbour => {
             // Its known subscribers follow, so that no other rule is broken.
             network.at_mut(p).neighbours.insert(p);
@@ -130,6 +120,18 @@ fn spoil(rng: &mut Rng, network: &mut Network, rule: Exact, pair: (Peer, Peer), 
             network.at_mut(p).pending.insert(m);
             network.at_mut(p).seen.insert(m);
         }
+    }
+}
+
+/// One bit somewhere in the record of an absent peer.
+fn leave_something(rng: &mut Rng, record: &mut Record, q: Peer, t: Topic, m: Message) {
+    match rng.below(6) {
+        0 => drop(record.pubs.insert(t)),
+        1 => drop(record.subs.insert(t)),
+        2 => drop(record.neighbours.insert(q)),
+        3 => drop(record.pending.insert(m)),
+        4 => drop(record.seen.insert(m)),
+        _ => record.learn(t, q),
     }
 }
 

@@ -4,7 +4,7 @@ use super::lists::{accepted, Mood};
 use super::rng::Rng;
 use super::table_or_zero;
 use crate::model::events::{apply, Event, TABLE_SIZE};
-use crate::model::state::{all_messages, all_peers, all_topics, Network, Peer, PEERS};
+use crate::model::state::{all_messages, all_peers, all_topics, Message, Network, Peer, PEERS};
 use std::collections::{BTreeMap, BTreeSet};
 
 /// Any sound network.
@@ -100,6 +100,19 @@ pub fn full(rng: &mut Rng) -> Network {
     }
     let (pending, seen) = (rng.density(), rng.density());
     furnish(rng, &mut network, 16, 16, pending, seen);
+    network
+}
+
+/// All 32 peers, each linked to every other, all subscribed to all, and one message pending at one of them.
+pub fn about_to_flood(rng: &mut Rng) -> Network {
+    let order: Vec<u8> = (0..PEERS).collect();
+    let mut network = longest(&order);
+    for (one, other) in all_peers().flat_map(|one| all_peers().map(move |other| (one, other))) {
+        link(&mut network, one, other);
+    }
+    network.at_mut(Peer(0)).pending.clear();
+    network.at_mut(Peer(rng.below(32) as u8)).pending.insert(Message(rng.below(64) as u8));
+    tie(&mut network);
     network
 }
 

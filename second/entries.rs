@@ -1,0 +1,199 @@
+//! The one table of what is compared: each part with its cases, the numbers that it can answer and the
+//! details that must occur. A later request adds its numbers, parts and details here (and makes its inputs
+//! in cases.rs); nothing else has a list of its own.
+
+#[derive(Clone, Copy, Debug, PartialEq, Eq)]
+pub enum Part {
+    Check,
+    Copy,
+    Run,
+    /// Runs of more than 65,536 events.
+    Long,
+    Forward,
+    Drain,
+    Image,
+    /// Demand 3 through the engine alone, with no model.
+    Orders,
+    Program,
+}
+
+pub struct Entry {
+    pub part: Part,
+    pub name: &'static str,
+    /// The cases of the fixed seed.
+    pub cases: usize,
+    /// How often each number must be answered in these.
+    pub least: u64,
+    pub numbers: &'static [u8],
+    /// What must occur besides, in the words of details.rs.
+    pub details: &'static [&'static [&'static str]],
+}
+
+/// One more than the largest number of 01's table.
+pub const NUMBERS: usize = 19;
+
+pub const ENTRIES: [Entry; 9] = [
+    Entry {
+        part: Part::Check,
+        name: "check",
+        cases: 6000,
+        least: 100,
+        numbers: &[0, 1, 5],
+        details: &[RULES],
+    },
+    Entry {
+        part: Part::Copy,
+        name: "copy",
+        cases: 4000,
+        least: 100,
+        numbers: &[0, 1, 5],
+        details: &[RULES, COPIES],
+    },
+    Entry {
+        part: Part::Run,
+        name: "run",
+        cases: 12000,
+        least: 100,
+        numbers: &[0, 1, 2, 3, 4, 5, 6, 7, 8, 9, 10, 11, 12, 13, 14, 15, 16],
+        details: &[RULES, ROWS, EVENTS],
+    },
+    Entry {
+        part: Part::Long,
+        name: "long",
+        cases: 80,
+        least: 4,
+        numbers: &[0, 6, 7, 8, 9, 10, 11, 12, 13, 14, 15, 16],
+        details: &[LONG],
+    },
+    Entry {
+        part: Part::Forward,
+        name: "forward",
+        cases: 8000,
+        least: 100,
+        numbers: &[0, 1, 2, 4, 5, 7, 8, 13],
+        details: &[RULES, ROWS, FORWARDS],
+    },
+    Entry {
+        part: Part::Drain,
+        name: "drain",
+        cases: 6000,
+        least: 100,
+        numbers: &[0, 1, 2, 4, 5],
+        details: &[ROWS, DRAINS],
+    },
+    Entry {
+        part: Part::Image,
+        name: "image",
+        cases: 5000,
+        least: 100,
+        numbers: &[0, 1, 5, 18],
+        details: &[&["hides a message", "hides none"]],
+    },
+    Entry { part: Part::Orders, name: "orders", cases: 160, least: 160, numbers: &[0], details: &[ORDERS] },
+    Entry {
+        part: Part::Program,
+        name: "program",
+        cases: 3000,
+        least: 30,
+        numbers: &[0, 1, 2, 3, 4, 5, 6, 7, 8, 9, 10, 11, 12, 13, 14, 15, 16, 17],
+        details: &[PROGRAM],
+    },
+];
+
+/// "Record p is sound when ..": each rule, and where the lowest unsound record stands.
+const RULES: &[&str] = &[
+    "FirstByte",
+    "Gap",
+    "AbsentNotBlank",
+    "OwnNeighbour",
+    "NeighbourAbsent",
+    "NotListedBack",
+    "Known",
+    "PendingAndSeen",
+    "record 0",
+    "record 31",
+    "another record",
+];
+
+const COPIES: &[&str] = &["1 for the one read", "1 for the one written", "5 before a wrong length to write"];
+
+/// For 4: where the lowest bad row stands, and its first wrong byte.
+const ROWS: &[&str] =
+    &["row 0", "row 63", "another row", "row byte 0", "row byte 1", "row byte 2", "row byte 3"];
+
+const FORWARDS: &[&str] =
+    &["no delivery", "1 delivery", "2 to 30", "31 deliveries", "peer above 31", "message above 63"];
+
+/// Every kind accepted, every condition of every kind, and codes and places.
+const EVENTS: &[&str] = &[
+    "skip accepted",
+    "produce accepted",
+    "forward accepted",
+    "subscribe accepted",
+    "unsubscribe accepted",
+    "leave accepted",
+    "join accepted",
+    "skip by 7",
+    "produce by 7",
+    "forward by 7",
+    "subscribe by 7",
+    "unsubscribe by 7",
+    "leave by 7",
+    "join by 7",
+    "produce by 8",
+    "forward by 8",
+    "subscribe by 8",
+    "unsubscribe by 8",
+    "leave by 8",
+    "join by 9",
+    "produce by 10",
+    "produce by 11",
+    "produce by 12",
+    "forward by 13",
+    "leave by 14",
+    "join by 15",
+    "join by 16",
+    "code 7",
+    "code 8 to 254",
+    "code 255",
+    "no events",
+    "refused at place 0",
+    "refused further on",
+];
+
+const LONG: &[&str] = &[
+    "skips only",
+    "exactly 65,535 accepted",
+    "exactly 65,536 accepted",
+    "accepted above 65,535",
+    "place above 65,535",
+    "produced above 65,535",
+    "forwards above 65,535",
+    "deliveries above 65,535",
+];
+
+const DRAINS: &[&str] = &[
+    "quiet",
+    "not quiet",
+    "nothing was pending",
+    "budget 0",
+    "budget spent, quiet",
+    "budget spent within a round",
+    "budget spent at the end of a round",
+    "2,048 forwards",
+    "32 rounds",
+];
+
+const ORDERS: &[&str] =
+    &["no forward", "1 to 64 forwards", "65 to 1,000 forwards", "more than 1,000 forwards"];
+
+const PROGRAM: &[&str] = &[
+    "0 bytes",
+    "dripped",
+    "65,536 bytes",
+    "65,537 bytes",
+    "more than 131,072 bytes",
+    "a list that fills the input",
+    "no peer shown",
+    "32 peers shown",
+];

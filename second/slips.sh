@@ -1,0 +1,105 @@
+# The spoilt engines: each is one edit of a file of the stand-in (the model behind the engine's interface).
+# mutants.sh reads this list. NAME, FILE, EXPRESSION for sed, the
+# parts that must find it where it is not any.
+
+# 01, "Slips to guard against"
+slip leaver-stays events.rs '/gone.neighbours {/,/^    }/s/network.at_mut(neighbour).neighbours.remove(&peer);//'
+slip leaver-subs-stay events.rs '/gone.neighbours {/,/^    }/s/unlearn(\*topic, peer)/at_nothing()/; $a trait N { fn at_nothing(\&mut self) {} }\nimpl N for Record {}'
+slip back-to-seen events.rs 's/if !record.pending.contains(&message) && !record.seen.contains(&message) {/if !record.pending.contains(\&message) {/'
+slip same-round calls.rs 's/    for (peer, message) in network.pending_pairs() {/    while let Some((peer, message)) = network.pending_pairs().first().copied() {/'
+slip image-own-pending calls.rs 's/seen: record.seen.difference(&waiting)/seen: record.seen.difference(\&record.pending)/'
+slip new-at-origin events.rs 's/    if !is_new(network, message) {/    if network.at(peer).pending.contains(\&message) || network.at(peer).seen.contains(\&message) {/'
+
+# 01, useless versions
+slip refuses-all calls.rs 's/    if state.len() == STATE_SIZE {/    if state.len() == 1 {/'
+slip state-as-found calls.rs 's/^    state.copy_from_slice(&network.bytes());//'
+slip first-event-only calls.rs 's/in events.chunks(EVENT_SIZE).enumerate() {/in events.chunks(EVENT_SIZE).enumerate().take(1) {/'
+slip first-round-only calls.rs 's/    while forwards < budget \&\&/    if forwards < budget \&\&/'
+slip invents-deliveries events.rs 's/^            deliveries += 1;/            deliveries += 2;/'
+slip invents-rounds calls.rs 's/        if finished {/        if made > 0 {/'
+
+# soundness
+slip first-byte-2 state.rs 's/record.first > 1/record.first > 2/; s/self.first == 1/self.first != 0/'
+slip gap-byte-3 state.rs 's/record.gap != \[0, 0, 0\]/record.gap[..2] != [0, 0]/'
+slip absent-not-blank state.rs 's/(\*record != Record::default())/(record.neighbours.len() > 0)/'
+slip own-neighbour state.rs 's/if record.neighbours.contains(&p) {/if false {/'
+slip neighbour-absent state.rs 's/any(|q| !self.present(\*q))/any(|_| false)/'
+slip not-listed-back state.rs 's/any(|q| !self.at(\*q).neighbours.contains(&p))/any(|_| false)/'
+slip blames-the-other state.rs 's/record.neighbours.iter().any(|q| !self.at(\*q).neighbours.contains(&p))/all_peers().any(|q| self.at(q).neighbours.contains(\&p) \&\& !record.neighbours.contains(\&q))/'
+slip known-last-topic state.rs 's/for topic in all_topics() {$/for topic in all_topics().take(31) {/'
+slip pending-and-seen state.rs 's/!record.pending.is_disjoint(&record.seen)/false/'
+slip highest-unsound state.rs 's/all_peers().find_map(|p| self.fault(p).map(|fault| (p, fault)))/all_peers().filter_map(|p| self.fault(p).map(|fault| (p, fault))).last()/'
+
+# table and event bytes
+slip topic-32 events.rs 's/row\[0\] >= TOPICS/row[0] > TOPICS/'
+slip origin-32 events.rs 's/row\[1\] >= PEERS/row[1] > PEERS/'
+slip row-byte-3 events.rs 's/ || row\[3\] != 0//'
+slip code-255 events.rs 's/if code >= 7 {/if code >= 7 \&\& code < 255 {/; s/_ => panic!("no such kind")/_ => \&[]/'
+slip unused-byte-15 events.rs 's/(1..EVENT_SIZE).any/(1..EVENT_SIZE - 1).any/'
+slip unused-byte-3 events.rs 's/(1..EVENT_SIZE).any(|i| /(1..EVENT_SIZE).any(|i| i != 3 \&\& /'
+slip message-masked events.rs 's/ || bytes\[2\] >= MESSAGES//; s/Message(bytes\[2\])/Message(bytes[2] % MESSAGES)/'
+slip peer-masked events.rs 's/bytes\[1\] >= PEERS || //; s/Peer(bytes\[1\])/Peer(bytes[1] % PEERS)/'
+
+# conditions and effects
+slip new-if-not-seen events.rs 's/all(|record| !record.pending.contains(&message) && /all(|record| /'
+slip new-if-not-pending events.rs 's/ && !record.seen.contains(&message))$/)/'
+slip order-10-11 events.rs '/^fn produce/,/^}/s/if table.origin(message) != peer {/if !network.at(peer).pubs.contains(\&table.topic(message)) { return Err(11); }\n    if table.origin(message) != peer {/'
+slip order-11-12 events.rs '/^fn produce/,/^}/s/^    if !network.at(peer).pubs/    if !is_new(network, message) { return Err(12); }\n    if !network.at(peer).pubs/'
+slip forward-not-seen events.rs 's/network.at_mut(peer).seen.insert(message);//'
+slip forward-not-to-origin events.rs 's/^    for subscriber in subscribers {/    for subscriber in subscribers.into_iter().filter(|q| *q != table.origin(message)) {/'
+slip subscribe-alone events.rs 's/network.at_mut(neighbour).learn(\*topic, peer);//'
+slip unsubscribe-alone events.rs '/^fn unsubscribe/,/^}/s/network.at_mut(neighbour).unlearn(\*topic, peer);//'
+slip leave-with-pending events.rs 's/if !network.at(peer).pending.is_empty() {/if false {/'
+slip order-15-16 events.rs '/^fn join/,/^}/s/if neighbours.contains(&peer) {/if neighbours.iter().any(|q| *q != peer \&\& !network.present(*q)) { return Err(16); }\n    if neighbours.contains(\&peer) {/'
+slip order-9-15 events.rs '/^fn join/,/^}/s/if network.present(peer) {/if neighbours.contains(\&peer) { return Err(15); }\n    if network.present(peer) {/'
+slip join-one-side events.rs 's/other.neighbours.insert(peer);//'
+slip join-unknown events.rs 's/record.learn(\*topic, \*neighbour);//'
+
+# calls, counts and orders
+slip tally-kept calls.rs 's/^    \*tally = Tally::default();//'
+slip tally-reset-early calls.rs 's/^    let (mut network, table) = match before_events/    *tally = Tally::default();\n    let (mut network, table) = match before_events/'
+slip accepted-plus-one calls.rs 's/accepted: place }/accepted: place + 1 }/'
+slip order-3-4 calls.rs '/^fn before_events/,/^}/{s/^    events_length(events)?;//; s/^    let table = table_rows(table)?;/    let table = table_rows(table)?;\n    events_length(events)?;/}'
+slip order-4-5 calls.rs '/^fn before_forwards/,/^}/s/^    let table = table_rows(table)?;/    sound(state)?;\n    let table = table_rows(table)?;/'
+slip order-5-7 calls.rs 's/^    let result = before_forwards/    if state.len() == 5120 \&\& table.len() == 256 \&\& peer >= PEERS { return Forwarded { number: 7, place: 0, deliveries: 0 }; }\n    let result = before_forwards/'
+slip round-unfinished calls.rs 's/^    (made, true)/    (made, made < budget)/'
+slip quiet-by-budget calls.rs 's/(forwards, rounds, network.pending_pairs().is_empty())/(forwards, rounds, forwards < budget)/'
+slip budget-16-bits calls.rs 's/^    let mut forwards = 0;/    let budget = budget % 65536; let mut forwards = 0;/'
+slip order-5-18 calls.rs '/^pub fn image(/,/^}/s/^    checked(read/    if image.len() != STATE_SIZE { return Checked { number: 18, place: 0 }; }\n    checked(read/'
+slip image-keeps-links calls.rs 's/^            pubs: record.pubs.clone(),/            pubs: record.pubs.clone(), neighbours: record.neighbours.clone(),/'
+slip copy-clears calls.rs '/^pub fn copy/,/^}/s/^    checked(read/    to.fill(0);\n    checked(read/'
+
+# 16 bits where more are needed
+slip answers-modulo-65536 standin.rs 's/CAnswer(number, place, accepted)/CAnswer(number, place % 65536, accepted % 65536)/' '--only long'
+slip accepted-modulo-65536 standin.rs 's/CAnswer(number, place, accepted)/CAnswer(number, place, accepted % 65536)/' '--only long'
+slip produced-modulo-65536 standin.rs 's/CTally(own.produced, /CTally(own.produced % 65536, /' '--only long'
+slip deliveries-modulo-65536 standin.rs 's/, own.deliveries);/, own.deliveries % 65536);/' '--only long'
+slip stops-at-65536 calls.rs 's/in events.chunks(EVENT_SIZE).enumerate() {/in events.chunks(EVENT_SIZE).enumerate().take(65536) {/' '--only long'
+
+# bytes that are not its own, or not lent to be written; "touch" writes a byte and puts the old one back
+touch='unsafe fn touch(at: *const u8) { let at = at as *mut u8; let old = at.read_volatile(); at.write_volatile(!old); at.write_volatile(old) }'
+slip reads-beyond-events standin.rs '/^pub unsafe extern "C" fn relay_run/,/^}/s/^    let mut own = before;/    events.as_ptr().add(events_length).read_volatile(); let mut own = before;/'
+slip reads-beyond-state standin.rs '/^pub unsafe extern "C" fn relay_check/,/^}/s/^    checked(/    state.add(state_length).read_volatile(); checked(/'
+slip reads-before-table standin.rs '/^pub unsafe extern "C" fn relay_drain/,/^}/s/^    let Drained/    table.as_ptr().sub(1).read_volatile(); let Drained/'
+slip reads-beyond-image standin.rs '/^pub unsafe extern "C" fn relay_image/,/^}/s/^    let state = /    image.add(image_length).read_volatile(); let state = /'
+slip touches-table standin.rs "/^pub unsafe extern \"C\" fn relay_run/,/^}/s/^    let mut own = before;/    if table_length > 0 { touch(table.as_ptr()) } let mut own = before;/; \$a $touch"
+slip touches-image-state standin.rs "/^pub unsafe extern \"C\" fn relay_image/,/^}/s/^    let state = /    if state_length > 9 { touch(state.add(9)) } let state = /; \$a $touch"
+slip touches-refused-state standin.rs "/^pub unsafe extern \"C\" fn relay_forward/,/^}/s/^    let Forwarded/    if state_length > 0 { touch(state.as_ptr()) } let Forwarded/; \$a $touch"
+slip touches-refused-tally standin.rs 's/^    if own != before {/    {/'
+slip writes-behind-tally standin.rs 's/^    let mut own = before;/    let mut own = before; (tally as *mut u8).add(24).write_volatile(0);/'
+slip writes-before-tally standin.rs 's/^    let mut own = before;/    let mut own = before; (tally as *mut u8).sub(1).write_volatile(0xa5);/'
+slip writes-before-state standin.rs '/^pub unsafe extern "C" fn relay_drain/,/^}/s/^    let state = /    state.sub(1).write_volatile(0xa5); let state = /'
+
+# demand 3 through the engine alone
+slip back-to-seen-orders events.rs 's/if !record.pending.contains(&message) && !record.seen.contains(&message) {/if !record.pending.contains(\&message) {/' '--only orders'
+slip drain-skips-31-orders calls.rs '/^pub fn round(/,/^}/s/^        forward_event(/        if peer.0 == 31 \&\& network.present(Peer(30)) { network.at_mut(peer).pending.remove(\&message); network.at_mut(peer).seen.insert(message); made += 1; continue; }\n        forward_event(/' '--only orders'
+slip forward-not-counted-orders calls.rs 's/            Forwarded { number: 0, place: 0, deliveries }/            Forwarded { number: 0, place: 0, deliveries: deliveries.min(3) }/' '--only orders'
+
+# the run program
+slip limit-65535 program.rs 's/input.len() > INPUT_LIMIT/input.len() >= INPUT_LIMIT/'
+slip limit-last program.rs 's/    if input.len() > INPUT_LIMIT {/    if input.len() > INPUT_LIMIT + 100_000 {/'
+slip shows-only-done program.rs 's/answer.number == 0 || (6..=16).contains(&answer.number)/answer.number == 0/'
+slip shows-unsound program.rs 's/answer.number == 0 || (6..=16)/answer.number == 0 || (5..=16)/'
+slip shows-pubs program.rs 's/record.subs.len()/record.pubs.len()/'
+slip reads-once standin_flood.rs 's/std::io::stdin().read_to_end(&mut input)?;/input.resize(70_000, 0); let count = std::io::stdin().read(\&mut input)?; input.truncate(count);/'
+slip needs-some-input standin_flood.rs 's/^    std::io::stdout()/    if input.is_empty() { return Ok(()); }\n    std::io::stdout()/'

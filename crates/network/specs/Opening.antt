@@ -65,8 +65,3 @@ opens-5 b old p h e l en = record { answer = open-5 b p h e l; arrays = rw (eq-e
 pub opens-0 : (b : List ℕ) (old : Network) (p : ℕ) {n : Network} → length b ≡ 5120 → p ≡ unsoundAt b → 32 ≤ p → n ≡ netOf b → Opens b old (looked 0 0 (n .present)) n
 unfolding openedAs overOf
 opens-0 b old p h e l en = record { answer = open-0 b p h e l en; arrays = rw (eq-eqb (length b) 5120 h) en }
-
--- what was read is the network
-pub opens-net : {b : List ℕ} {old : Network} {r : Looked} {n : Network} → Opens b old r n → r .number ≡ 0 → n ≡ openOf b .network
-unfolding openedAs
-opens-net {b} {old} {r} {n} o z = rw (← (o .answer), z)

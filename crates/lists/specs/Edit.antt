@@ -1,13 +1,11 @@
 -- A list changed place by place: what stands at i becomes f i of it. Assumes nothing.
 use mathlib.Core.Path.{_≡_, refl, sym, ap, _∙_}
-use mathlib.Core.Logic.{_⊎_, inl, inr}
-use mathlib.Core.Bool.{Bool, true, false}
 use mathlib.Core.List.{List, [], _∷_}
-use Prim.Native.Nat.{ℕ, zero, suc, _+_, _≤_, _<_}
+use Prim.Native.Nat.{ℕ, zero, suc, _≤_, _<_}
 use native.Mathlib.Omega.{arith}
 use native.Mathlib.Decide.{decLt, ℕ-discrete}
 use lib.ListN.{length, getD, set, length-set, List·getD-eq-default}
-use lib.Seq.{getD-set-same, getD-set-other, ext-getD, set-out}
+use lib.Seq.{getD-set-same, getD-set-other, ext-getD}
 
 -- f i put to what stands at place i, for every place
 unfoldable pub edit : (ℕ → ℕ → ℕ) → List ℕ → List ℕ

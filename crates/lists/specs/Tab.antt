@@ -1,11 +1,11 @@
 -- A list by its places, and an array that a loop fills from the front. Assumes nothing.
 use mathlib.Core.Path.{_≡_, refl, sym, ap, _∙_}
-use mathlib.Core.Logic.{_⊎_, inl, inr, ⊎-elim}
+use mathlib.Core.Logic.{_⊎_, inl, inr}
 use mathlib.Core.List.{List, [], _∷_}
-use Prim.Native.Nat.{ℕ, zero, suc, _+_, _≤_, _<_}
+use Prim.Native.Nat.{ℕ, zero, suc, _+_, _<_}
 use native.Mathlib.Omega.{arith}
 use native.Mathlib.Numerals.{add-one}
-use lib.ListN.{length, getD, set, length-set, List·getD-eq-default}
+use lib.ListN.{length, getD, set, length-set}
 use lib.Seq.{getD-set-same, getD-set-other, ext-getD}
 use Rattle.sets.specs.Bools.{below-suc}
 
@@ -24,12 +24,6 @@ unfolding tab
 getD-tab zero f i h = absurd (omega arith)
 getD-tab (suc n) f zero h = refl
 getD-tab (suc n) f (suc i) h = getD-tab n (λ j. f (suc j)) i (omega arith)
-
--- past its end there is nothing
-pub getD-tab-out : (n : ℕ) (f : ℕ → ℕ) (i : ℕ) → n ≤ i → getD (tab n f) i 0 ≡ 0
-getD-tab-out n f i h =
-    let l : length (tab n f) ≤ i = omega (arith, length-tab n f) in
-    List·getD-eq-default (tab n f) 0 l
 
 -- a list of n numbers that has f i at each place is the table of f
 pub is-tab : (n : ℕ) (f : ℕ → ℕ) (l : List ℕ) → length l ≡ n → ((i : ℕ) → i < n → getD l i 0 ≡ f i) → l ≡ tab n f

@@ -34,8 +34,8 @@ net-is b {present} {heads} eh e0 e1 e2 e3 e4 e6 e8 = rw (there, e1, e2, e3, e4, 
     there = e0 ∙ setOf-same 32 _ _ λ p l. ap (λ (w : ℕ). eqb (w % 256) 1) (ap (λ (h : List ℕ). getD h p 0) eh ∙ getD-tab 32 (λ (p : ℕ). wordIn b p 0) p l)
 
 -- the lowest record with a fault
-pub unsound-is : (b : List ℕ) {heads : List ℕ} {n : Network} → heads ≡ tab 32 (λ (p : ℕ). wordIn b p 0) → n ≡ netOf b → lowestBy (λ (p : ℕ). getD heads p 0) n ≡ unsoundAt b
-unsound-is b eh en = lowest-tab _ _ eh ∙ ap (lowestBy (λ (p : ℕ). wordIn b p 0)) en
+pub unsound-is : (b : List ℕ) {heads : List ℕ} {n : Network} {r : ℕ} → heads ≡ tab 32 (λ (p : ℕ). wordIn b p 0) → n ≡ netOf b → r ≡ lowestBy (λ (p : ℕ). getD heads p 0) n → r ≡ unsoundAt b
+unsound-is b eh en er = er ∙ lowest-tab _ _ eh ∙ ap (lowestBy (λ (p : ℕ). wordIn b p 0)) en
 
 -- the three answers
 pub open-1 : (b : List ℕ) → (length b ≡ 5120 → ⊥) → opened 1 0 blankNet ≡ openOf b
@@ -65,8 +65,3 @@ opens-5 b old p h e l en = record { answer = open-5 b p h e l; arrays = rw (eq-e
 pub opens-0 : (b : List ℕ) (old : Network) (p : ℕ) {n : Network} → length b ≡ 5120 → p ≡ unsoundAt b → 32 ≤ p → n ≡ netOf b → Opens b old (looked 0 0 (n .present)) n
 unfolding openedAs overOf
 opens-0 b old p h e l en = record { answer = open-0 b p h e l en; arrays = rw (eq-eqb (length b) 5120 h) en }
-
--- what was read is the network
-pub opens-net : {b : List ℕ} {old : Network} {r : Looked} {n : Network} → Opens b old r n → r .number ≡ 0 → n ≡ openOf b .network
-unfolding openedAs
-opens-net {b} {old} {r} {n} o z = rw (← (o .answer), z)

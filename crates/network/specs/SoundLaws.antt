@@ -27,19 +27,13 @@ within l k i j e h = lt-of-not-le λ (o : k ≤ i). clash h (ap (λ (w : ℕ). h
 pub present-peer : {n : Network} → Shaped n → (p : Peer) → present n p ≡ true → p .0 < 32
 present-peer s p h = has-in 32 _ _ (s .present) h
 
--- who publishes, and what
+-- who publishes
 pub publishes-peer : {n : Network} → Shaped n → (p : Peer) (t : Topic) → publishes n p t ≡ true → p .0 < 32
 publishes-peer {n} s p t h = within (n .pubs) 32 (p .0) (t .0) (s .pubs) h
 
-pub publishes-topic : {n : Network} → Shaped n → (p : Peer) (t : Topic) → publishes n p t ≡ true → t .0 < 32
-publishes-topic s p t h = has-in 32 _ _ (s .pubs-fit (p .0)) h
-
--- who subscribes, and to what
+-- who subscribes
 pub subscribed-peer : {n : Network} → Shaped n → (p : Peer) (t : Topic) → subscribed n p t ≡ true → p .0 < 32
 subscribed-peer {n} s p t h = within (n .subs) 32 (p .0) (t .0) (s .subs) h
-
-pub subscribed-topic : {n : Network} → Shaped n → (p : Peer) (t : Topic) → subscribed n p t ≡ true → t .0 < 32
-subscribed-topic s p t h = has-in 32 _ _ (s .subs-fit (p .0)) h
 
 -- who lists whom
 pub linked-peer : {n : Network} → Shaped n → (p q : Peer) → linked n p q ≡ true → p .0 < 32
@@ -62,10 +56,6 @@ saw-peer {n} s p m h = within (n .seen) 32 (p .0) (m .0) (s .seen) h
 pub saw-message : {n : Network} → Shaped n → (p : Peer) (m : Message) → saw n p m ≡ true → m .0 < 64
 saw-message s p m h = has-in 64 _ _ (s .seen-fit (p .0)) h
 
--- who is known to subscribe
-pub knows-other : {n : Network} → Shaped n → (p : Peer) (t : Topic) (q : Peer) → knows n p t q ≡ true → q .0 < 32
-knows-other s p t q h = has-in 32 _ _ (s .known-fit _) h
-
 -- ---- only a present peer has anything
 
 -- a peer of which a word that is 0 for the absent has a member is present
@@ -79,9 +69,6 @@ has-present {n} s p w i b e h = go (present n p) λ a. clash h (ap (λ (x : ℕ)
 -- "each neighbour q is present and lists p": so whoever lists somebody is present
 pub linked-present : {n : Network} → Sound n → (p q : Peer) → linked n p q ≡ true → present n p ≡ true
 linked-present s p q h = s .near q p (s .back p q h)
-
-pub linked-other-present : {n : Network} → Sound n → (p q : Peer) → linked n p q ≡ true → present n q ≡ true
-linked-other-present s p q h = s .near p q h
 
 pub publishes-present : {n : Network} → Sound n → (p : Peer) (t : Topic) → publishes n p t ≡ true → present n p ≡ true
 publishes-present s p t h = has-present s p _ _ (publishes-peer (s .shaped) p t h) (λ e. e .pubs) h
@@ -102,9 +89,6 @@ knows-both {n} s p t q bp bt h = and-yes (linked n p q) (subscribed n q t) (sym 
 
 pub knows-linked : {n : Network} → Sound n → (p : Peer) (t : Topic) (q : Peer) → p .0 < 32 → t .0 < 32 → knows n p t q ≡ true → linked n p q ≡ true
 knows-linked s p t q bp bt h = knows-both s p t q bp bt h .0
-
-pub knows-subscribed : {n : Network} → Sound n → (p : Peer) (t : Topic) (q : Peer) → p .0 < 32 → t .0 < 32 → knows n p t q ≡ true → subscribed n q t ≡ true
-knows-subscribed s p t q bp bt h = knows-both s p t q bp bt h .1
 
 pub knows-present : {n : Network} → Sound n → (p : Peer) (t : Topic) (q : Peer) → p .0 < 32 → t .0 < 32 → knows n p t q ≡ true → present n q ≡ true
 knows-present s p t q bp bt h = s .near p q (knows-linked s p t q bp bt h)

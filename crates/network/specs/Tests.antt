@@ -1,5 +1,5 @@
 -- What the code tests in place of a rule of specs/Rules.antt, over the words themselves, and that it is the rule. Assumes nothing.
-use mathlib.Core.Path.{_≡_, refl, sym, ap, _∙_}
+use mathlib.Core.Path.{_≡_, sym, ap, _∙_}
 use mathlib.Core.Bool.{Bool, true, false, not, _&&_, _||_, and-comm, and-true, and-false}
 use mathlib.Core.List.{List}
 use Prim.Native.Nat.{ℕ, _+_, _^_, _<_}
@@ -10,7 +10,7 @@ use Rattle.sets.specs.Members.{has-meet, has-minus}
 use Rattle.sets.specs.Bounds.{meet-lt, minus-lt}
 use Rattle.sets.specs.Build.{setOf-lt, has-setOf, is-setOf}
 use Rattle.sets.specs.Set.{has, meet, minus, withIf, setOf, lowest}
-use Rattle.sets.specs.Bools.{clash, and-or-not}
+use Rattle.sets.specs.Bools.{clash, and-or-not, ne-eqb}
 use Rattle.sets.specs.Least.{lowestOf, lowestOf-same, lowestOf-is-all}
 use Rattle.sets.specs.Lowest.{lowest-lowestOf, lowest-is-none}
 use Rattle.sets.specs.Any.{all, all-yes, all-why, all-more, all-same}
@@ -61,6 +61,13 @@ pub known-at : (known subscribers : List ℕ) (listed : ℕ) (p : Peer) (t : ℕ
 known-at known subscribers listed p t ei ew = rw (ei, ew)
 
 -- ---- each is its rule, where the lowest is 32
+
+-- a rule whose lowest fault r was worked out: kept where r is 32, broken where it is not
+pub rule-kept : {l r : ℕ} {right : Bool} → eqb l 32 ≡ right → r ≡ l → r ≡ 32 → right ≡ true
+rule-kept h e z = sym h ∙ eq-eqb _ 32 (sym e ∙ z)
+
+pub rule-broken : {l r : ℕ} {right : Bool} → eqb l 32 ≡ right → r ≡ l → (r ≡ 32 → ⊥) → right ≡ false
+rule-broken h e z = sym h ∙ ne-eqb λ d. z (e ∙ d)
 
 -- "all its bytes are zero", of the known subscribers
 pub row-empty-why : (known : List ℕ) (p : Peer) → rowEmpty known p ≡ true → (t : Topic) → t .0 < 32 → getD known (spot p t) 0 ≡ 0

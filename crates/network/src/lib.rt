@@ -190,21 +190,23 @@ pub fn save<'a>(
     requires { ⌜ length (now state) ≡ 5120 ⌝ }
     ensures { λ r. ⌜ now (state .exit) ≡ bytesOf (mk present (now (pubs .entry)) (now (subs .entry)) (now (neighbours .entry)) (now (pending .entry)) (now (seen .entry)) (now (known .entry))) ⌝ }
 {
-    let mut p: usize = 0;
-    while p < 32 {
-        let head = store::head(present, p as u32);
+    let mut i: u8 = 0;
+    while i < 32 {
+        let p = Peer(i);
+        let at = i as usize;
+        let head = store::head(present, p);
         store::words(
             &mut *state,
             p,
             head,
-            pubs[p],
-            subs[p],
-            neighbours[p],
-            pending[p],
-            seen[p],
+            pubs[at],
+            subs[at],
+            neighbours[at],
+            pending[at],
+            seen[at],
         );
         store::row(&mut *state, store::row_of(known, p), p);
-        p += 1;
+        i += 1;
     }
 }
 

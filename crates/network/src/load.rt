@@ -1,5 +1,6 @@
 // The words of a state, column by column: each function reads one field of all 32 records (specs/State.antt).
 use crate::Network;
+use crate::Peer;
 ghost use mathlib.Core.Path.{_≡_};
 ghost use Prim.Native.Nat.{ℕ, _+_, _*_, _<_};
 ghost use lib.ListN.{length};
@@ -36,27 +37,29 @@ pub(crate) fn longs(state: &[u8], j: usize) -> [u64; 32]
 }
 
 // The known subscribers of record p.
-fn row(state: &[u8], p: usize) -> [u32; 32]
-    requires { ⌜ (length (now state) ≡ 5120) × (p < 32) ⌝ }
-    ensures { λ r. ⌜ r ≡ tab 32 (λ (t : ℕ). wordIn (now (state .entry)) p (8 + t)) ⌝ }
+fn row(state: &[u8], p: Peer) -> [u32; 32]
+    requires { ⌜ (length (now state) ≡ 5120) × (p .0 < 32) ⌝ }
+    ensures { λ r. ⌜ r ≡ tab 32 (λ (t : ℕ). wordIn (now (state .entry)) (p .0) (8 + t)) ⌝ }
 {
+    let i = p.0 as usize;
     let mut r = [0u32; 32];
     let mut t: usize = 0;
     while t < 32 {
-        r[t] = endian::le4(state, 4 * (40 * p + (8 + t)));
+        r[t] = endian::le4(state, 4 * (40 * i + (8 + t)));
         t += 1;
     }
     r
 }
 
 // Stores row p, the rows before it being there. The row is passed by value, so that the compiler sees that it is not part of `known`.
-fn put_row(known: &mut [u32; 1024], p: usize, row: [u32; 32])
-    requires { ⌜ (length (now known) ≡ 1024) × (p < 32) ⌝ }
-    ensures { λ r. ⌜ RowStored 32 p row (now (known .entry)) (now (known .exit)) ⌝ }
+fn put_row(known: &mut [u32; 1024], p: Peer, row: [u32; 32])
+    requires { ⌜ (length (now known) ≡ 1024) × (p .0 < 32) ⌝ }
+    ensures { λ r. ⌜ RowStored 32 (p .0) row (now (known .entry)) (now (known .exit)) ⌝ }
 {
+    let i = p.0 as usize;
     let mut t: usize = 0;
     while t < 32 {
-        known[32 * p + t] = row[t];
+        known[32 * i + t] = row[t];
         t += 1;
     }
 }
@@ -66,9 +69,9 @@ pub(crate) fn fill_known(state: &[u8], known: &mut [u32; 1024])
     requires { ⌜ (length (now state) ≡ 5120) × (length (now known) ≡ 1024) ⌝ }
     ensures { λ r. ⌜ now (known .exit) ≡ tab 1024 (knownIn (now (state .entry))) ⌝ }
 {
-    let mut p: usize = 0;
+    let mut p: u8 = 0;
     while p < 32 {
-        put_row(&mut *known, p, row(state, p));
+        put_row(&mut *known, Peer(p), row(state, Peer(p)));
         p += 1;
     }
 }

@@ -6,10 +6,9 @@ use native.Mathlib.Nat.{le-refl, zero-lt-suc, mod-lt}
 use native.Mathlib.Omega.{arith}
 use lib.Dec.{eqb}
 use lib.Count.{ones, ones-step}
-use Rattle.sets.specs.Set.{has, setOf, size, lowest, digit, count}
-use Rattle.sets.specs.Sums.{sum, sum-start, sum-more, sum-same, sum-first, sum-le-below, sum-bound}
+use Rattle.sets.specs.Set.{has, size, lowest, digit, count}
+use Rattle.sets.specs.Sums.{sum, sum-same, sum-first, sum-bound}
 use Rattle.sets.specs.Members.{has-first, has-rest, half-lt, below-pow}
-use Rattle.sets.specs.Build.{setOf-lt, has-setOf}
 use Rattle.sets.specs.Lowest.{lowest-has}
 use Rattle.sets.specs.Sizes.{size-without}
 
@@ -25,15 +24,6 @@ pub count-first : (n : ℕ) (f : ℕ → Bool) → count (suc n) f ≡ digit (f 
 unfolding count
 count-first n f = sum-first n (λ (i : ℕ). digit (f i))
 
--- What passes f passes g.
-pub count-le : (n : ℕ) (f g : ℕ → Bool) → ((i : ℕ) → i < n → f i ≡ true → g i ≡ true) → count n f ≤ count n g
-unfolding count
-count-le n f g e = sum-le-below n _ _ (λ i l. go (f i) (g i) (e i l))
-  where
-    go : (x y : Bool) → (x ≡ true → y ≡ true) → digit x ≤ digit y
-    go true y h = rw (h refl) (le-refl 1)
-    go false y h = zero-le
-
 -- At most n pass.
 pub count-bound : (n : ℕ) (f : ℕ → Bool) → count n f ≤ n
 unfolding count
@@ -42,23 +32,6 @@ count-bound n f = let b = sum-bound n 1 (λ (i : ℕ). digit (f i)) (λ i. go (f
     go : (x : Bool) → digit x ≤ 1
     go true = le-refl 1
     go false = zero-le
-
--- ---- a loop that counts: `for q in 0..n { if f(q) { r += 1 } }` keeps r ≡ count q f
-
--- nothing is asked yet
-pub count-start : (f : ℕ → Bool) → 0 ≡ count 0 f
-unfolding count
-count-start f = sum-start _
-
--- one more that passes
-pub count-yes : (n : ℕ) (f : ℕ → Bool) → f n ≡ true → count (n + 1) f ≡ count n f + 1
-unfolding count
-count-yes n f y = sum-more n _ ∙ ap (λ (b : Bool). count n f + digit b) y
-
--- one more that does not
-pub count-no : (n : ℕ) (f : ℕ → Bool) → f n ≡ false → count (n + 1) f ≡ count n f
-unfolding count
-count-no n f y = let e = sum-more n (λ (i : ℕ). digit (f i)) ∙ ap (λ (b : Bool). count n f + digit b) y in omega arith
 
 -- ---- sizes
 
@@ -80,10 +53,6 @@ size-sum (suc k) w h =
 pub size-count : (k w : ℕ) → w < 2 ^ k → size w ≡ count k (has w)
 unfolding count
 size-count = size-sum
-
--- The size of a comprehension.
-pub size-setOf : (n : ℕ) (f : ℕ → Bool) → size (setOf n f) ≡ count n f
-size-setOf n f = size-count n (setOf n f) (setOf-lt n f) ∙ count-ext n (has (setOf n f)) f (has-setOf n f)
 
 -- Only the empty set has none.
 pub size-empty : (w : ℕ) → size w ≡ 0 → w ≡ 0

@@ -96,7 +96,3 @@ lowestOf-found n q f e b h = sym (lowestOf-is n f q b h (λ j l. lowestOf-least 
 -- all are asked, and none passed
 pub lowestOf-end : (n q : ℕ) (f : ℕ → Bool) → q ≡ lowestOf q f → q ≡ n → q ≡ lowestOf n f
 lowestOf-end n q f e h = e ∙ ap (λ (x : ℕ). lowestOf x f) h
-
--- in a loop that goes on, what was found stays
-pub lowestOf-kept : (n q : ℕ) (f : ℕ → Bool) → q ≤ n → lowestOf q f < q → lowestOf n f ≡ lowestOf q f
-lowestOf-kept n q f l b = lowestOf-is n f (lowestOf q f) (omega arith) (lowestOf-lt-holds q f b) (lowestOf-least q f)

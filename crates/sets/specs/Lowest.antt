@@ -1,7 +1,7 @@
 -- The least member, and a set without it. Assumes nothing.
 use mathlib.Core.Path.{_≡_, refl, sym, ap, _∙_}
-use mathlib.Core.Bool.{Bool, true, false, not, _&&_}
-use Prim.Native.Nat.{ℕ, zero, suc, _-_, _*_, _/_, _%_, _^_, _<_}
+use mathlib.Core.Bool.{Bool, true, false, _&&_}
+use Prim.Native.Nat.{ℕ, zero, suc, _-_, _/_, _%_, _^_, _<_}
 use native.Mathlib.Nat.{pow-suc, not-suc-le-zero, le-of-suc-le-suc, zero-lt-suc}
 use native.Mathlib.Omega.{arith}
 use lib.Dec.{eqb}
@@ -13,7 +13,6 @@ use Rattle.sets.specs.Set.{has, meet, minus, only, lowest}
 use Rattle.sets.specs.Bools.{clash, ne-eqb, and-eqb}
 use Rattle.sets.specs.Members.{has-first, has-rest, has-meet, has-none, has-only, half-lt, ext}
 use Rattle.sets.specs.Bounds.{has-in, member-pos}
-use Rattle.sets.specs.Words.{shl-only}
 use Rattle.sets.specs.Least.{lowestOf, lowestOf-is, lowestOf-none}
 
 -- The least member is a member, where there is one.
@@ -83,15 +82,6 @@ meet-only w i h =
 pub meet-only-none : (w i : ℕ) → has w i ≡ false → meet w (only i) ≡ 0
 meet-only-none w i h =
     none-empty (meet w (only i)) (λ j. simp (has-meet, has-only) (and-eqb (has w) i j ∙ ap (λ (x : Bool). x && eqb i j) h))
-
--- `w & (1 << i) != 0` asks for i.
-pub and-shl-has : (k w i : ℕ) → i < k → not (eqb (bitAnd w ((1 * 2 ^ i) % 2 ^ k)) 0) ≡ has w i
-unfolding meet only
-and-shl-has k w i h = ap (λ (x : ℕ). not (eqb (bitAnd w x) 0)) (shl-only k i h) ∙ go (has w i) refl
-  where
-    go : (b : Bool) → has w i ≡ b → not (eqb (meet w (only i)) 0) ≡ b
-    go true e = ap (λ (x : ℕ). not (eqb x 0)) (meet-only w i e) ∙ ap not (ne-eqb (λ (z : only i ≡ 0). omega (arith, pow-pos i)))
-    go false e = ap (λ (x : ℕ). not (eqb x 0)) (meet-only-none w i e)
 
 -- A member that is taken away takes its bit.
 pub minus-only : (w i : ℕ) → has w i ≡ true → minus w (only i) ≡ w - 2 ^ i

@@ -78,7 +78,3 @@ without-stranger w i h = omega (arith, meet-only-none w i h)
 -- The least member is taken away.
 pub size-rest : (k w : ℕ) → 0 < w → w < 2 ^ k → suc (size (minus w (only (lowest k w)))) ≡ size w
 size-rest k w p h = size-without w (lowest k w) (lowest-has k w p h)
-
--- Sets that have nothing in common.
-pub size-disjoint : (a b : ℕ) → meet a b ≡ 0 → size (union a b) ≡ size a + size b
-size-disjoint a b e = omega (arith, size-union-meet a b, ap size e, size-none)

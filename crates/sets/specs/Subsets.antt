@@ -1,25 +1,17 @@
 -- Every member of one set is in the other. Assumes nothing.
 use mathlib.Core.Path.{_≡_, sym, ap, _∙_}
 use mathlib.Core.Logic.{⊎-elim}
-use mathlib.Core.Bool.{Bool, true, false, not}
-use Prim.Native.Nat.{ℕ, _+_, _^_, _≤_, _<_}
-use native.Mathlib.Omega.{arith}
-use Rattle.sets.specs.Set.{has, union, meet, minus, sift, Subset, size}
-use Rattle.sets.specs.Bools.{clash, bool-ext, not-no, and-both, and-yes, and-no, and-fails, or-left, or-right, or-yes}
+use mathlib.Core.Bool.{true, false, not}
+use Prim.Native.Nat.{ℕ}
+use Rattle.sets.specs.Set.{has, union, meet, minus, Subset}
+use Rattle.sets.specs.Bools.{clash, bool-ext, not-no, and-both, and-yes, and-no, and-fails, or-left, or-yes}
 use Rattle.sets.specs.Members.{has-union, has-meet, has-none, ext, has-minus}
-use Rattle.sets.specs.Bounds.{has-in}
-use Rattle.sets.specs.Build.{lt-of-members, has-sift, sift-lt}
 use Rattle.sets.specs.Lowest.{none-empty}
-use Rattle.sets.specs.Sizes.{size-minus-meet}
 
 -- The union has each of the two.
 pub subset-union : (a b : ℕ) → Subset a (union a b)
 unfolding Subset
 subset-union a b i e = has-union a b i ∙ or-left (has b i) e
-
-pub subset-union-right : (a b : ℕ) → Subset b (union a b)
-unfolding Subset
-subset-union-right a b i e = has-union a b i ∙ or-right (has a i) e
 
 -- The union of two that are in c is in c.
 pub union-subset : (a b c : ℕ) → Subset a c → Subset b c → Subset (union a b) c
@@ -55,16 +47,6 @@ pub subset-eq : (a b : ℕ) → Subset a b → Subset b a → a ≡ b
 unfolding Subset
 subset-eq a b h k = ext a b (λ i. bool-ext (h i) (k i))
 
--- A part of a word of k bits is one.
-pub subset-lt : (k a b : ℕ) → Subset a b → b < 2 ^ k → a < 2 ^ k
-unfolding Subset
-subset-lt k a b h l = lt-of-members k a (λ i e. has-in k b i l (h i e))
-
--- The members of s that pass a test are in s.
-pub subset-sift : (n s : ℕ) (p : ℕ → Bool) → Subset (sift n s p) s
-unfolding Subset
-subset-sift n s p i e = and-yes (has s i) (p i) (sym (has-sift n s p i (has-in n (sift n s p) i (sift-lt n s p) e)) ∙ e) .0
-
 -- ---- tests for the empty set
 
 -- `a & !b == 0`: all of a is in b.
@@ -92,11 +74,3 @@ meet-none a b h = none-empty (meet a b) (λ i. has-meet a b i ∙ and-no (has a 
 pub meet-of-subset : (a b : ℕ) → Subset b a → meet a b ≡ b
 unfolding Subset
 meet-of-subset a b h = subset-eq (meet a b) b (subset-meet-right a b) (λ i e. has-meet a b i ∙ and-both (h i e) e)
-
--- A part that is taken away.
-pub size-minus : (a b : ℕ) → Subset b a → size (minus a b) + size b ≡ size a
-size-minus a b h = omega (arith, size-minus-meet a b, ap size (meet-of-subset a b h))
-
--- A part is no larger.
-pub subset-size : (a b : ℕ) → Subset a b → size a ≤ size b
-subset-size a b h = omega (arith, size-minus b a h)

@@ -3,7 +3,6 @@ use mathlib.Core.Path.{_≡_, refl, sym, ap, _∙_, subst}
 use mathlib.Core.Logic.{⊎-elim}
 use mathlib.Core.Bool.{Bool, true, false, not, _&&_, _||_, and-true, and-false, or-true, or-false, and-not-self}
 use Prim.Native.Nat.{ℕ, _^_, _<_}
-use native.Mathlib.Omega.{arith}
 use borrow.Author.Tests.{eqb-true, eqb-false}
 use lib.Dec.{eqb}
 use lib.Pow.{pow-pos}
@@ -12,7 +11,7 @@ use Rattle.sets.specs.Bools.{clash, or-right, or-yes, eqb-same, ne-eqb}
 use Rattle.sets.specs.Members.{has-union, has-none, has-only, ext, has-minus, members}
 use Rattle.sets.specs.Bounds.{minus-lt}
 use Rattle.sets.specs.Build.{has-withIf, withIf-lt, setOf-lt, has-setOf, is-setOf}
-use Rattle.sets.specs.Lowest.{lowest-has, lowest-lt, none-empty, minus-only}
+use Rattle.sets.specs.Lowest.{lowest-has, lowest-lt, none-empty}
 use Rattle.sets.specs.Subsets.{subset-minus, subset-trans}
 
 -- ---- what has been visited
@@ -32,10 +31,6 @@ subset-self s i e = e
 
 pub subset-step : (left s x : ℕ) → Subset left s → Subset (minus left x) s
 subset-step left s x h = subset-trans (minus left x) left s (subset-minus left x) h
-
--- What is left gets less.
-pub rest-lt : (k w : ℕ) → 0 < w → w < 2 ^ k → minus w (only (lowest k w)) < w
-rest-lt k w p h = omega (arith, minus-only w (lowest k w) (lowest-has k w p h), pow-pos (lowest k w))
 
 -- q, which is left, is visited.
 pub visit-step : (left s q : ℕ) → Subset left s → has left q ≡ true → minus s (minus left (only q)) ≡ union (minus s left) (only q)

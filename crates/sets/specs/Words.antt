@@ -1,14 +1,13 @@
 -- What the code computes, `a & !b`, `w | (1 << i)` and the others, is what the definitions say. Stated once, over the width k. Assumes nothing.
 use mathlib.Core.Path.{_≡_, sym, ap, _∙_}
-use mathlib.Core.Bool.{Bool, true, false, not, _&&_}
+use mathlib.Core.Bool.{Bool, true, not, _&&_}
 use Prim.Native.Nat.{ℕ, zero, suc, _-_, _*_, _/_, _%_, _^_, _<_}
 use native.Mathlib.Nat.{not-suc-le-zero, le-of-suc-le-suc, mod-eq-of-lt, one-mul}
 use native.Mathlib.Omega.{arith}
-use borrow.Author.Tests.{eq-eqb}
 use lib.Dec.{eqb}
 use lib.Pow.{pow-pos, pow-lt}
 use lib.Bits.{bitAnd, bitOr, bitXor, xor-add-and, and-mask}
-use Rattle.sets.specs.Bools.{apart, apart-true, ne-eqb}
+use Rattle.sets.specs.Bools.{apart, apart-true}
 use Rattle.sets.specs.Set.{has, union, meet, minus, only}
 use Rattle.sets.specs.Members.{has-first, has-rest, has-meet, has-xor, ext-below, has-minus}
 use Rattle.sets.specs.Bounds.{meet-lt, minus-lt, only-lt}
@@ -54,17 +53,3 @@ or-shl k w i h = ap (union w) (shl-only k i h)
 -- `w & !(1 << i)` is w without i.
 pub and-not-shl : (k w i : ℕ) → w < 2 ^ k → i < k → bitAnd w ((2 ^ k - 1) - (1 * 2 ^ i) % 2 ^ k) ≡ minus w (only i)
 and-not-shl k w i hw hi = ap (λ (x : ℕ). bitAnd w ((2 ^ k - 1) - x)) (shl-only k i hi) ∙ and-not k w (only i) hw (only-lt k i hi)
-
--- `if (w >> i) % 2 == 1`: the arm that is taken, and the other.
-pub has-yes : (w i : ℕ) → w / 2 ^ i % 2 ≡ 1 → has w i ≡ true
-unfolding has
-has-yes w i e = eq-eqb (w / 2 ^ i % 2) 1 e
-
-pub has-no : (w i : ℕ) → (w / 2 ^ i % 2 ≡ 1 → ⊥) → has w i ≡ false
-unfolding has
-has-no w i e = ne-eqb e
-
--- `(w >> i) & 1 == 1` asks for i.
-pub and-one-has : (w i : ℕ) → eqb (bitAnd (w / 2 ^ i) 1) 1 ≡ has w i
-unfolding has
-and-one-has w i = ap (λ (x : ℕ). eqb x 1) (and-mask (w / 2 ^ i) 1)

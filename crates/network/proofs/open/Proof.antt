@@ -1,6 +1,5 @@
 -- `network::open` meets its contract. Assumes nothing.
 use borrow.Author.Needs.{needs}
-use mathlib.Core.Path.{_∙_}
 use Rattle.network.specs.Network.{bare}
 use Rattle.network.specs.Opening.{net-is, unsound-is, opens-1, opens-5, opens-0}
 use Rattle.network.proofs.open.Statement.{statement}
@@ -43,7 +42,7 @@ returns-2 c =
     let o = k .before .before .before .before .before .before .before in
     let w = o .before .before in
     let n = net-is _ (w .words .ensures) (o .ones .ensures) (k .before .before .before .before .before .before .words2 .ensures) (k .before .before .before .before .before .words3 .ensures) (k .before .before .before .before .words4 .ensures) (k .before .before .before .longs .ensures) (k .before .before .longs2 .ensures) (k .fill-known .ensures) in
-    opens-5 _ _ _ (w .before .if1 .left) (f .lowest-fault .ensures bare ∙ unsound-is _ (w .words .ensures) n) (c .if2 .taken) n
+    opens-5 _ _ _ (w .before .if1 .left) (unsound-is _ (w .words .ensures) n (f .lowest-fault .ensures bare)) (c .if2 .taken) n
 
 returns-3 : tie.Need-returns-3
 returns-3 c =
@@ -52,7 +51,7 @@ returns-3 c =
     let o = k .before .before .before .before .before .before .before in
     let w = o .before .before in
     let n = net-is _ (w .words .ensures) (o .ones .ensures) (k .before .before .before .before .before .before .words2 .ensures) (k .before .before .before .before .before .words3 .ensures) (k .before .before .before .before .words4 .ensures) (k .before .before .before .longs .ensures) (k .before .before .longs2 .ensures) (k .fill-known .ensures) in
-    opens-0 _ _ _ (w .before .if1 .left) (f .lowest-fault .ensures bare ∙ unsound-is _ (w .words .ensures) n) (c .if2 .left) n
+    opens-0 _ _ _ (w .before .if1 .left) (unsound-is _ (w .words .ensures) n (f .lowest-fault .ensures bare)) (c .if2 .left) n
 
 pub open-spec : {M : Type 1} → statement M
 open-spec =

@@ -7,9 +7,15 @@ use Rattle.network.specs.Opening.{unsound-is, open-1, open-5, open-0}
 use Rattle.network.proofs.read.Statement.{statement}
 use Rattle.network.proofs.read.Tie as tie
 
+-- what had been read by then
+abbrev loaded : tie.After-lowest-fault → tie.After-network
+loaded c = c .before .before .before .before .before .before .before .before .before
+
 -- what is found is the lowest unsound record
-found : (c : tie.After-lowest-fault) → c .lowest-fault .result ≡ unsoundAt (c .before .before .before .before .before .before .before .before .before .before .before .before .before .args .state .now)
-found c = c .lowest-fault .ensures bare ∙ unsound-is _ (c .before .before .before .before .before .before .before .before .before .before .words .ensures) (c .before .before .before .before .before .before .before .before .before .network .ensures)
+found : (c : tie.After-lowest-fault) → c .lowest-fault .result ≡ unsoundAt (loaded c .before .before .before .before .args .state .now)
+found c =
+    let n = loaded c in
+    unsound-is _ (n .before .words .ensures) (n .network .ensures) (c .lowest-fault .ensures bare)
 
 refused-requires : tie.Need-refused-requires
 refused-requires c κs = search needs
@@ -30,10 +36,14 @@ refused-requires-2 : tie.Need-refused-requires-2
 refused-requires-2 c κs = search needs
 
 returns-2 : tie.Need-returns-2
-returns-2 c = c .refused2 .ensures ∙ open-5 _ _ (c .before .before .before .before .before .before .before .before .before .before .before .before .before .if1 .left) (found (c .before .before)) (c .before .if2 .taken)
+returns-2 c =
+    let f = c .before .before in
+    c .refused2 .ensures ∙ open-5 _ _ (loaded f .before .before .if1 .left) (found f) (c .before .if2 .taken)
 
 returns-3 : tie.Need-returns-3
-returns-3 c = open-0 _ _ (c .before .before .before .before .before .before .before .before .before .before .before .before .if1 .left) (found (c .before)) (c .if2 .left) (c .before .before .before .before .before .before .before .before .before .before .network .ensures)
+returns-3 c =
+    let n = loaded (c .before) in
+    open-0 _ _ (n .before .before .if1 .left) (found (c .before)) (c .if2 .left) (n .network .ensures)
 
 pub read-spec : {M : Type 1} → statement M
 read-spec =

@@ -9,22 +9,18 @@ use Rattle.network.specs.State.{byteOf, bytesOf}
 use Rattle.network.specs.Storing.{filled-record}
 use Rattle.network.proofs.save.Statement.{statement}
 use Rattle.network.proofs.save.Tie as tie
-use Rattle.network.proofs.store.head.Reads as head-reads
-use Rattle.network.proofs.store.row.Reads as row-reads
-use Rattle.network.proofs.store.row_of.Reads as row-of-reads
-use Rattle.network.proofs.store.words.Reads as words-reads
 
 abbrev Inv-loop : tie.InvT-loop
-Inv-loop present pubs subs neighbours pending seen known state₀ p₀ state p = (p ≤ 32) × Filled 5120 (byteOf (mk present pubs subs neighbours pending seen known)) (160 * p) state
+Inv-loop present pubs subs neighbours pending seen known state₀ i₀ state i = (i ≤ 32) × Filled 5120 (byteOf (mk present pubs subs neighbours pending seen known)) (160 * i) state
 
 abbrev μ-loop : tie.MeasureT-loop
-μ-loop present pubs subs neighbours pending seen known state₀ p₀ state p = 32 - p
+μ-loop present pubs subs neighbours pending seen known state₀ i₀ state i = 32 - i
 
 loop-holds : tie.Need-loop-holds Inv-loop μ-loop
 loop-holds c = (search needs, filled-none 5120 _ _ (c .before .pre))
 
-cast-head : tie.Need-cast-head Inv-loop μ-loop
-cast-head c = search needs
+cast-at : tie.Need-cast-at Inv-loop μ-loop
+cast-at c = search needs
 
 head-requires : tie.Need-head-requires Inv-loop μ-loop
 head-requires c κs = search needs
@@ -68,8 +64,8 @@ row-of-requires c κs = search needs
 row-requires : tie.Need-row-requires Inv-loop μ-loop
 row-requires c κs = search needs
 
-add-p : tie.Need-add-p Inv-loop μ-loop
-add-p c = search needs
+add-i : tie.Need-add-i Inv-loop μ-loop
+add-i c = search needs
 
 loop-less : tie.Need-loop-less Inv-loop μ-loop
 loop-less c = search needs
@@ -80,14 +76,14 @@ loop-again c =
     let w = r .before .before .before .before .before in
     let h = w .before .before .before .before .before .before .before in
     let l = h .before .before .loop in
-    (search needs, filled-record _ (l .p) (search needs) (l .inv .1) (h .head .ensures) (w .words .ensures) (r .before .row-of .ensures) (r .row .ensures))
+    (search needs, filled-record _ (l .i) (search needs) (l .inv .1) (h .head .ensures) (w .words .ensures) (r .before .row-of .ensures) (r .row .ensures))
 
 same-length : tie.Need-same-length Inv-loop μ-loop
 same-length c = search needs
 
 returns : tie.Need-returns Inv-loop μ-loop
 unfolding bytesOf
-returns c = let e : c .before .loop .p ≡ 32 = omega arith in filled-all (rw e at (c .before .loop .inv .1))
+returns c = let e : c .before .loop .i ≡ 32 = omega arith in filled-all (rw e at (c .before .loop .inv .1))
 
 pub save-spec : {M : Type 1} → statement M
 save-spec =
@@ -96,7 +92,7 @@ save-spec =
     Inv-loop
     μ-loop
     loop-holds
-    cast-head
+    cast-at
     head-requires
     mul-words
     element-copy-out-words
@@ -111,7 +107,7 @@ save-spec =
     words-requires
     row-of-requires
     row-requires
-    add-p
+    add-i
     loop-less
     loop-again
     same-length

@@ -1,15 +1,13 @@
 -- `network::load::fill_known` meets its contract. Assumes nothing.
 use borrow.Author.Needs.{needs}
 use mathlib.Core.Path.{_≡_}
-use Prim.Native.Nat.{ℕ, _-_, _*_, _≤_}
+use Prim.Native.Nat.{_-_, _*_, _≤_}
 use native.Mathlib.Omega.{arith}
 use Rattle.lists.specs.Tab.{Filled, filled-none, filled-all}
 use Rattle.network.specs.State.{knownIn}
 use Rattle.network.specs.Layout.{row-read}
 use Rattle.network.proofs.load.fill_known.Statement.{statement}
 use Rattle.network.proofs.load.fill_known.Tie as tie
-use Rattle.network.proofs.load.put_row.Reads as put-row-reads
-use Rattle.network.proofs.load.row.Reads as row-reads
 
 abbrev Inv-loop : tie.InvT-loop
 Inv-loop state known₀ p₀ known p = (p ≤ 32) × Filled 1024 (knownIn state) (32 * p) known

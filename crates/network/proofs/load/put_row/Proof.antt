@@ -1,6 +1,6 @@
 -- `network::load::put_row` meets its contract. Assumes nothing.
 use borrow.Author.Needs.{needs}
-use mathlib.Core.Path.{_≡_, refl, _∙_}
+use mathlib.Core.Path.{_≡_}
 use Prim.Native.Nat.{_-_, _≤_}
 use native.Mathlib.Omega.{arith}
 use lib.ListN.{length, length-set}
@@ -9,13 +9,16 @@ use Rattle.network.proofs.load.put_row.Statement.{statement}
 use Rattle.network.proofs.load.put_row.Tie as tie
 
 abbrev Inv-loop : tie.InvT-loop
-Inv-loop known₀ p row t₀ known t = (t ≤ 32) × ((length known ≡ 1024) × RowStored t p row known₀ known)
+Inv-loop known₀ row i t₀ known t = (t ≤ 32) × ((length known ≡ 1024) × RowStored t i row known₀ known)
 
 abbrev μ-loop : tie.MeasureT-loop
-μ-loop known₀ p row t₀ known t = 32 - t
+μ-loop known₀ row i t₀ known t = 32 - t
+
+cast-i : tie.Need-cast-i Inv-loop μ-loop
+cast-i c = search needs
 
 loop-holds : tie.Need-loop-holds Inv-loop μ-loop
-loop-holds c = (search needs, (c .pre .0, stored-none _ _ _))
+loop-holds c = (search needs, (c .before .pre .0, stored-none _ _ _))
 
 mul-known : tie.Need-mul-known Inv-loop μ-loop
 mul-known c = search needs
@@ -53,6 +56,7 @@ put-row-spec =
     (tie.spec
     Inv-loop
     μ-loop
+    cast-i
     loop-holds
     mul-known
     array-read-known

@@ -8,13 +8,15 @@ use Rattle.lists.specs.Tab.{Filled, filled-none, filled-more, filled-all}
 use Rattle.network.specs.State.{wordIn, word}
 use Rattle.network.proofs.load.row.Statement.{statement}
 use Rattle.network.proofs.load.row.Tie as tie
-use Rattle.endian.proofs.le4.Reads as le4-reads
 
 abbrev Inv-loop : tie.InvT-loop
-Inv-loop state p r₀ t₀ r t = (t ≤ 32) × Filled 32 (λ (u : ℕ). wordIn state p (8 + u)) t r
+Inv-loop state i r₀ t₀ r t = (t ≤ 32) × Filled 32 (λ (u : ℕ). wordIn state i (8 + u)) t r
 
 abbrev μ-loop : tie.MeasureT-loop
-μ-loop state p r₀ t₀ r t = 32 - t
+μ-loop state i r₀ t₀ r t = 32 - t
+
+cast-i : tie.Need-cast-i Inv-loop μ-loop
+cast-i c = search needs
 
 loop-holds : tie.Need-loop-holds Inv-loop μ-loop
 loop-holds c = (search needs, filled-none 32 _ _ (length-replicate {A = ℕ} 32 0))
@@ -59,6 +61,7 @@ row-spec =
     (tie.spec
     Inv-loop
     μ-loop
+    cast-i
     loop-holds
     mul-le4
     add-le4

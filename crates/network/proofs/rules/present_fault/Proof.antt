@@ -7,7 +7,7 @@ use Rattle.network.specs.declared.Network.{Network}
 use Rattle.network.specs.Network.{withPresent, withSubs, withNeighbours, withPending, withSeen, withKnown}
 use Rattle.network.specs.Rules.{ownRight, nearRight, backRight, knownRight, apartRight}
 use Rattle.network.specs.Faults.{fault-3, fault-4, fault-5, fault-6, fault-7, fault-none}
-use Rattle.network.specs.Tests.{near-is, back-is, known-is}
+use Rattle.network.specs.Tests.{rule-kept, rule-broken, near-is, back-is, known-is}
 use borrow.Author.Needs.{needs}
 use Rattle.network.proofs.rules.present_fault.Statement.{statement}
 use Rattle.network.proofs.rules.present_fault.Tie as tie
@@ -37,13 +37,13 @@ own n c = ap not (sym (c .before .has32 .ensures) ∙ c .if1 .left)
 near : (n : Network) (c : tie.Else2) → nearRight (net n (start2 c)) (start2 c .args .p) ≡ true
 near n c =
     let a = c .before .near-absent .ensures in
-    sym (near-is (net n (start2 c)) (start2 c .args .p) (a .1)) ∙ eq-eqb _ _ (sym (a .0) ∙ c .if2 .left)
+    rule-kept (near-is (net n (start2 c)) (start2 c .args .p) (a .1)) (a .0) (c .if2 .left)
 
 back : (n : Network) (c : tie.Else3) → backRight (net n (start3 c)) (start3 c .args .p) ≡ true
-back n c = sym (back-is _ _) ∙ eq-eqb _ _ (sym (c .before .list-back .ensures) ∙ c .if3 .left)
+back n c = rule-kept (back-is (net n (start3 c)) (start3 c .args .p)) (c .before .list-back .ensures) (c .if3 .left)
 
 known : (n : Network) (c : tie.Else4) → knownRight (net n (start4 c)) (start4 c .args .p) ≡ true
-known n c = sym (known-is (net n (start4 c)) _ (start4 c .pre .1)) ∙ eq-eqb _ _ (sym (c .before .row-known .ensures) ∙ c .if4 .left)
+known n c = rule-kept (known-is (net n (start4 c)) (start4 c .args .p) (start4 c .pre .1)) (c .before .row-known .ensures) (c .if4 .left)
 
 cast-i : tie.Need-cast-i
 cast-i c = search needs
@@ -71,7 +71,7 @@ returns-2 : tie.Need-returns-2
 returns-2 c =
     let e1 = c .before .before in
     let a = c .before .near-absent .ensures in
-    λ n. fault-4 (net n (start1 e1)) (start1 e1 .args .p) (own n e1) (sym (near-is (net n (start1 e1)) (start1 e1 .args .p) (a .1)) ∙ ne-eqb _ _ λ e. c .if2 .taken (a .0 ∙ e))
+    λ n. fault-4 (net n (start1 e1)) (start1 e1 .args .p) (own n e1) (rule-broken (near-is (net n (start1 e1)) (start1 e1 .args .p) (a .1)) (a .0) (c .if2 .taken))
 
 list-back-requires : tie.Need-list-back-requires
 list-back-requires c κs = search needs
@@ -79,7 +79,7 @@ list-back-requires c κs = search needs
 returns-3 : tie.Need-returns-3
 returns-3 c =
     let e2 = c .before .before in
-    λ n. fault-5 _ _ (own n (e2 .before .before)) (near n e2) (sym (back-is _ _) ∙ ne-eqb _ _ λ e. c .if3 .taken (c .before .list-back .ensures ∙ e))
+    λ n. fault-5 _ _ (own n (e2 .before .before)) (near n e2) (rule-broken (back-is (net n (start2 e2)) (start2 e2 .args .p)) (c .before .list-back .ensures) (c .if3 .taken))
 
 row-known-requires : tie.Need-row-known-requires
 row-known-requires c κs = search needs
@@ -89,7 +89,7 @@ returns-4 c =
     let e3 = c .before .before in
     let e2 = e3 .before .before in
     λ n. fault-6 _ _ (own n (e2 .before .before)) (near n e2) (back n e3)
-    (sym (known-is (net n (start3 e3)) _ (start3 e3 .pre .1)) ∙ ne-eqb _ _ λ e. c .if4 .taken (c .before .row-known .ensures ∙ e))
+    (rule-broken (known-is (net n (start3 e3)) (start3 e3 .args .p) (start3 e3 .pre .1)) (c .before .row-known .ensures) (c .if4 .taken))
 
 mul-meet64 : tie.Need-mul-meet64
 mul-meet64 c = search needs

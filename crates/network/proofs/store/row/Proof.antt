@@ -8,13 +8,15 @@ use Rattle.endian.specs.Le.{length-putLe}
 use Rattle.network.specs.Storing.{putRow, putRow-more}
 use Rattle.network.proofs.store.row.Statement.{statement}
 use Rattle.network.proofs.store.row.Tie as tie
-use Rattle.endian.proofs.put4.Reads as put4-reads
 
 abbrev Inv-loop : tie.InvT-loop
-Inv-loop state₀ p row t₀ state t = (t ≤ 32) × ((length state ≡ 5120) × (state ≡ putRow t state₀ row p))
+Inv-loop state₀ row i t₀ state t = (t ≤ 32) × ((length state ≡ 5120) × (state ≡ putRow t state₀ row i))
 
 abbrev μ-loop : tie.MeasureT-loop
-μ-loop state₀ p row t₀ state t = 32 - t
+μ-loop state₀ row i t₀ state t = 32 - t
+
+cast-i : tie.Need-cast-i Inv-loop μ-loop
+cast-i c = search needs
 
 loop-holds : tie.Need-loop-holds Inv-loop μ-loop
 unfolding putRow
@@ -48,7 +50,10 @@ loop-less : tie.Need-loop-less Inv-loop μ-loop
 loop-less c = search needs
 
 loop-again : tie.Need-loop-again Inv-loop μ-loop
-loop-again c = let l = c .before .before .before .before .before .loop in let w = c .before .before .put4 .ensures in (search needs, (ap length w ∙ simp length-putLe (l .inv .1 .0), w ∙ putRow-more (l .t) _ _ _ (l .inv .1 .1)))
+loop-again c =
+    let w = c .before .before in
+    let l = w .before .before .before .loop in
+    (search needs, (ap length (w .put4 .ensures) ∙ simp length-putLe (l .inv .1 .0), w .put4 .ensures ∙ putRow-more (l .t) _ _ _ (l .inv .1 .1)))
 
 same-length : tie.Need-same-length Inv-loop μ-loop
 same-length c = search needs
@@ -62,6 +67,7 @@ row-spec =
     (tie.spec
     Inv-loop
     μ-loop
+    cast-i
     loop-holds
     mul-put4
     add-put4

@@ -1,8 +1,12 @@
 -- `network::store::words` meets its contract. Assumes nothing.
 use borrow.Author.Needs.{needs}
 use Rattle.network.specs.Storing.{head-chain}
+use borrow.Author.Needs.{needs}
 use Rattle.network.proofs.store.words.Statement.{statement}
 use Rattle.network.proofs.store.words.Tie as tie
+
+cast-at : tie.Need-cast-at
+cast-at c = search needs
 
 mul-at : tie.Need-mul-at
 mul-at c = search needs
@@ -44,12 +48,20 @@ same-length : tie.Need-same-length
 same-length c = search needs
 
 returns : tie.Need-returns
-returns c = head-chain _ _ _ _ _ _ _ _ (c .before .before .before .before .before .before .before .before .before .before .before .before .before .before .before .before .before .before .before .before .before .before .put4 .ensures) (c .before .before .before .before .before .before .before .before .before .before .before .before .before .before .before .before .before .before .put42 .ensures) (c .before .before .before .before .before .before .before .before .before .before .before .before .before .before .put43 .ensures) (c .before .before .before .before .before .before .before .before .before .before .put44 .ensures) (c .before .before .before .before .before .before .put8 .ensures) (c .before .before .put82 .ensures)
+returns c =
+    let w5 = c .before .before in
+    let w4 = w5 .before .before .before .before in
+    let w3 = w4 .before .before .before .before in
+    let w2 = w3 .before .before .before .before in
+    let w1 = w2 .before .before .before .before in
+    let w0 = w1 .before .before .before .before in
+    head-chain _ _ _ _ _ _ _ _ (w0 .put4 .ensures) (w1 .put42 .ensures) (w2 .put43 .ensures) (w3 .put44 .ensures) (w4 .put8 .ensures) (w5 .put82 .ensures)
 
 pub words-spec : {M : Type 1} → statement M
 words-spec =
     tie.close
     (tie.spec
+    cast-at
     mul-at
     put4-requires
     add-put4

@@ -9,7 +9,7 @@ use lib.ListN.{replicate}
 use lib.Count.{ones}
 use Rattle.sets.specs.Any.{all}
 use Rattle.sets.specs.Bools.{and-yes, and-both}
-use Rattle.sets.specs.Set.{has, union, meet, minus, only, withIf, setOf, sift, size}
+use Rattle.sets.specs.Set.{has, union, meet, minus, only, when, puts, strikes, empties, setOf, sift, size}
 use Rattle.lists.specs.Edit.{edit}
 use Rattle.endian.specs.Le.{le, putLe}
 use Rattle.flooding.specs.Machine.{Drained, run, row, todo, round, drain}
@@ -22,8 +22,7 @@ use Rattle.events.specs.Event.{readAt, pickRead, decodeOf, fieldsAt, orSeven, s
 use Rattle.events.specs.Writing.{fieldsMk, putFields, putHead}
 use Rattle.floodnet.specs.Produce.{holders, isNew, produced}
 use Rattle.floodnet.specs.Forward.{moved, receivers, given, forwarded, deliveries}
-use Rattle.floodnet.specs.Topics.{withoutIf}
-use Rattle.floodnet.specs.Links.{unionIf, minusIf, keepIf, linkUp, linkDown, cleared, placed, left, joined}
+use Rattle.floodnet.specs.Links.{linkUp, linkDown, cleared, placed, left, joined}
 use Rattle.floodnet.specs.Refusals.{need, refusalProduce, refusalForward, refusalLeave, refusalJoin}
 use Rattle.events.specs.Kind.{kindOf}
 use Rattle.floodnet.specs.Step.{refusal, effect, ifAccepted, after, deliveriesOf, turned, turnedOf}
@@ -167,27 +166,27 @@ table = start ++ (refused ++ (leaving ++ (joining ++ (draining ++ again))))
 
 -- Each part is worked out by itself.
 start-hold : every start ≡ true
-unfolding answer-is images-are drained-is join produce forward leave H bytes ran same alike holds every A7 runAll runFrom turnOf talliedOf refusal effect ifAccepted after kindOf deliveriesOf turned turnedOf need refusalProduce refusalForward refusalLeave refusalJoin unionIf minusIf keepIf linkUp linkDown cleared placed left joined withoutIf moved receivers given forwarded deliveries holders isNew produced putFields putHead readAt pickRead decodeOf fieldsAt orSeven skipOk pairOk topicsOk leaveOk joinOk noMore noSets noMessage blankTable blankNet le putLe edit has union meet minus only withIf setOf sift size ones all view fwd together underway without image drainOf quietOf run row todo round drain start
+unfolding answer-is images-are drained-is join produce forward leave H bytes ran same alike holds every A7 runAll runFrom turnOf talliedOf refusal effect ifAccepted after kindOf deliveriesOf turned turnedOf need refusalProduce refusalForward refusalLeave refusalJoin linkUp linkDown cleared placed left joined moved receivers given forwarded deliveries holders isNew produced putFields putHead readAt pickRead decodeOf fieldsAt orSeven skipOk pairOk topicsOk leaveOk joinOk noMore noSets noMessage blankTable blankNet le putLe edit has union meet minus only when puts strikes empties setOf sift size ones all view fwd together underway without image drainOf quietOf run row todo round drain start
 start-hold = refl
 
 refused-hold : every refused ≡ true
-unfolding answer-is images-are drained-is join produce forward leave H bytes ran same alike holds every A7 runAll runFrom turnOf talliedOf refusal effect ifAccepted after kindOf deliveriesOf turned turnedOf need refusalProduce refusalForward refusalLeave refusalJoin unionIf minusIf keepIf linkUp linkDown cleared placed left joined withoutIf moved receivers given forwarded deliveries holders isNew produced putFields putHead readAt pickRead decodeOf fieldsAt orSeven skipOk pairOk topicsOk leaveOk joinOk noMore noSets noMessage blankTable blankNet le putLe edit has union meet minus only withIf setOf sift size ones all view fwd together underway without image drainOf quietOf run row todo round drain refused
+unfolding answer-is images-are drained-is join produce forward leave H bytes ran same alike holds every A7 runAll runFrom turnOf talliedOf refusal effect ifAccepted after kindOf deliveriesOf turned turnedOf need refusalProduce refusalForward refusalLeave refusalJoin linkUp linkDown cleared placed left joined moved receivers given forwarded deliveries holders isNew produced putFields putHead readAt pickRead decodeOf fieldsAt orSeven skipOk pairOk topicsOk leaveOk joinOk noMore noSets noMessage blankTable blankNet le putLe edit has union meet minus only when puts strikes empties setOf sift size ones all view fwd together underway without image drainOf quietOf run row todo round drain refused
 refused-hold = refl
 
 leaving-hold : every leaving ≡ true
-unfolding answer-is images-are drained-is join produce forward leave H bytes ran same alike holds every A7 runAll runFrom turnOf talliedOf refusal effect ifAccepted after kindOf deliveriesOf turned turnedOf need refusalProduce refusalForward refusalLeave refusalJoin unionIf minusIf keepIf linkUp linkDown cleared placed left joined withoutIf moved receivers given forwarded deliveries holders isNew produced putFields putHead readAt pickRead decodeOf fieldsAt orSeven skipOk pairOk topicsOk leaveOk joinOk noMore noSets noMessage blankTable blankNet le putLe edit has union meet minus only withIf setOf sift size ones all view fwd together underway without image drainOf quietOf run row todo round drain leaving
+unfolding answer-is images-are drained-is join produce forward leave H bytes ran same alike holds every A7 runAll runFrom turnOf talliedOf refusal effect ifAccepted after kindOf deliveriesOf turned turnedOf need refusalProduce refusalForward refusalLeave refusalJoin linkUp linkDown cleared placed left joined moved receivers given forwarded deliveries holders isNew produced putFields putHead readAt pickRead decodeOf fieldsAt orSeven skipOk pairOk topicsOk leaveOk joinOk noMore noSets noMessage blankTable blankNet le putLe edit has union meet minus only when puts strikes empties setOf sift size ones all view fwd together underway without image drainOf quietOf run row todo round drain leaving
 leaving-hold = refl
 
 joining-hold : every joining ≡ true
-unfolding answer-is images-are drained-is join produce forward leave H bytes ran same alike holds every A7 runAll runFrom turnOf talliedOf refusal effect ifAccepted after kindOf deliveriesOf turned turnedOf need refusalProduce refusalForward refusalLeave refusalJoin unionIf minusIf keepIf linkUp linkDown cleared placed left joined withoutIf moved receivers given forwarded deliveries holders isNew produced putFields putHead readAt pickRead decodeOf fieldsAt orSeven skipOk pairOk topicsOk leaveOk joinOk noMore noSets noMessage blankTable blankNet le putLe edit has union meet minus only withIf setOf sift size ones all view fwd together underway without image drainOf quietOf run row todo round drain joining
+unfolding answer-is images-are drained-is join produce forward leave H bytes ran same alike holds every A7 runAll runFrom turnOf talliedOf refusal effect ifAccepted after kindOf deliveriesOf turned turnedOf need refusalProduce refusalForward refusalLeave refusalJoin linkUp linkDown cleared placed left joined moved receivers given forwarded deliveries holders isNew produced putFields putHead readAt pickRead decodeOf fieldsAt orSeven skipOk pairOk topicsOk leaveOk joinOk noMore noSets noMessage blankTable blankNet le putLe edit has union meet minus only when puts strikes empties setOf sift size ones all view fwd together underway without image drainOf quietOf run row todo round drain joining
 joining-hold = refl
 
 draining-hold : every draining ≡ true
-unfolding answer-is images-are drained-is join produce forward leave H bytes ran same alike holds every A7 runAll runFrom turnOf talliedOf refusal effect ifAccepted after kindOf deliveriesOf turned turnedOf need refusalProduce refusalForward refusalLeave refusalJoin unionIf minusIf keepIf linkUp linkDown cleared placed left joined withoutIf moved receivers given forwarded deliveries holders isNew produced putFields putHead readAt pickRead decodeOf fieldsAt orSeven skipOk pairOk topicsOk leaveOk joinOk noMore noSets noMessage blankTable blankNet le putLe edit has union meet minus only withIf setOf sift size ones all view fwd together underway without image drainOf quietOf run row todo round drain draining
+unfolding answer-is images-are drained-is join produce forward leave H bytes ran same alike holds every A7 runAll runFrom turnOf talliedOf refusal effect ifAccepted after kindOf deliveriesOf turned turnedOf need refusalProduce refusalForward refusalLeave refusalJoin linkUp linkDown cleared placed left joined moved receivers given forwarded deliveries holders isNew produced putFields putHead readAt pickRead decodeOf fieldsAt orSeven skipOk pairOk topicsOk leaveOk joinOk noMore noSets noMessage blankTable blankNet le putLe edit has union meet minus only when puts strikes empties setOf sift size ones all view fwd together underway without image drainOf quietOf run row todo round drain draining
 draining-hold = refl
 
 again-hold : every again ≡ true
-unfolding answer-is images-are drained-is join produce forward leave H bytes ran same alike holds every A7 runAll runFrom turnOf talliedOf refusal effect ifAccepted after kindOf deliveriesOf turned turnedOf need refusalProduce refusalForward refusalLeave refusalJoin unionIf minusIf keepIf linkUp linkDown cleared placed left joined withoutIf moved receivers given forwarded deliveries holders isNew produced putFields putHead readAt pickRead decodeOf fieldsAt orSeven skipOk pairOk topicsOk leaveOk joinOk noMore noSets noMessage blankTable blankNet le putLe edit has union meet minus only withIf setOf sift size ones all view fwd together underway without image drainOf quietOf run row todo round drain again
+unfolding answer-is images-are drained-is join produce forward leave H bytes ran same alike holds every A7 runAll runFrom turnOf talliedOf refusal effect ifAccepted after kindOf deliveriesOf turned turnedOf need refusalProduce refusalForward refusalLeave refusalJoin linkUp linkDown cleared placed left joined moved receivers given forwarded deliveries holders isNew produced putFields putHead readAt pickRead decodeOf fieldsAt orSeven skipOk pairOk topicsOk leaveOk joinOk noMore noSets noMessage blankTable blankNet le putLe edit has union meet minus only when puts strikes empties setOf sift size ones all view fwd together underway without image drainOf quietOf run row todo round drain again
 again-hold = refl
 
 joined-hold : (l r : List Row) → every l ≡ true → every r ≡ true → every (l ++ r) ≡ true

@@ -5,7 +5,7 @@ use mathlib.Core.Bool.{false}
 use mathlib.Core.List.{List, [], _∷_}
 use Prim.Native.Nat.{ℕ, _+_}
 use lib.ListN.{replicate, set}
-use Rattle.sets.specs.Set.{has, union, meet, minus, only, withIf, setOf, sift}
+use Rattle.sets.specs.Set.{has, union, meet, minus, only, when, puts, strikes, empties, setOf, sift}
 use Rattle.lists.specs.Edit.{edit}
 use Rattle.network.specs.declared.Network.{Network}
 use Rattle.network.specs.declared.Table.{Table}
@@ -16,8 +16,8 @@ use Rattle.events.specs.declared.Event.{Event}
 use Rattle.events.specs.declared.Event.the-variants.{Produce, Forward, Unsubscribe, Leave, Join}
 use Rattle.floodnet.specs.Produce.{holders, isNew, produced}
 use Rattle.floodnet.specs.Forward.{moved, receivers, given, forwarded}
-use Rattle.floodnet.specs.Topics.{withoutIf, struck, unsubscribedFrom}
-use Rattle.floodnet.specs.Links.{unionIf, minusIf, keepIf, linkUp, linkDown, cleared, placed, left, joined}
+use Rattle.floodnet.specs.Topics.{struck, unsubscribedFrom}
+use Rattle.floodnet.specs.Links.{linkUp, linkDown, cleared, placed, left, joined}
 use Rattle.floodnet.specs.Refusals.{need, refusalProduce, refusalForward, refusalTopics, refusalLeave, refusalJoin}
 use Rattle.floodnet.specs.Step.{refusal, effect}
 use Rattle.broadcastnet.specs.Broadcast.{presentIn, broadcastPartial, audience}
@@ -57,7 +57,7 @@ abbrev pub late : Network
 late = mk 12 (replicate 32 0) (replicate 32 0) (set (set (replicate 32 0) 2 8) 3 4) (set (replicate 32 0) 3 32) (replicate 32 0) (replicate 1024 0)
 
 pub comes-to-late : course blankNet moves ≡ (0, late)
-unfolding course moves blankNet effect refusal joined cleared placed linkUp union only minus meet edit withIf unionIf minusIf keepIf withoutIf has sift setOf produced isNew forwarded given moved receivers holders left linkDown unsubscribedFrom struck need refusalProduce refusalForward refusalTopics refusalLeave refusalJoin
+unfolding course moves blankNet effect refusal joined cleared placed linkUp union only minus meet edit when puts strikes empties has sift setOf produced isNew forwarded given moved receivers holders left linkDown unsubscribedFrom struck need refusalProduce refusalForward refusalTopics refusalLeave refusalJoin
 comes-to-late = refl
 
 -- "and finally (v) Node 3 forwards m": it is accepted, and m is pending nowhere after it. In the image m goes to 3 by a partial broadcast. No
@@ -70,7 +70,7 @@ unfolding image has
 origin-has-left = refl
 
 pub nobody-subscribes : audience table (message 5) (image late) ≡ 0
-unfolding audience setOf withIf image has
+unfolding audience setOf when puts image has
 nobody-subscribes = refl
 
 pub last-accepted : refusal late table (Forward (peer 3) (message 5)) ≡ 0
@@ -78,5 +78,5 @@ unfolding refusal refusalForward need has
 last-accepted = refl
 
 pub last-is-partial : image last ≡ broadcastPartial (message 5) (only 3) (image late)
-unfolding effect forwarded given moved receivers holders image underway together without broadcastPartial edit withIf union only minus meet has sift setOf
+unfolding effect forwarded given moved receivers holders image underway together without broadcastPartial edit when puts union only minus meet has sift setOf
 last-is-partial = refl

@@ -5,7 +5,7 @@ use mathlib.Core.Bool.{Bool, true, false}
 use mathlib.Core.List.{List, [], _∷_, _++_}
 use lib.Count.{ones}
 use Rattle.sets.specs.Any.{all}
-use Rattle.sets.specs.Set.{has, union, meet, minus, only, withIf, setOf, sift, size}
+use Rattle.sets.specs.Set.{has, union, meet, minus, only, when, puts, strikes, empties, setOf, sift, size}
 use Rattle.lists.specs.Edit.{edit}
 use Rattle.endian.specs.Le.{le, putLe}
 use Rattle.flooding.specs.Machine.{run, row, todo, round, drain}
@@ -16,8 +16,7 @@ use Rattle.events.specs.Event.{readingOf, readOf, readingAt, readAt, decodeOf, 
 use Rattle.events.specs.Writing.{fieldsMk, putFields, putHead}
 use Rattle.floodnet.specs.Produce.{holders, isNew, produced}
 use Rattle.floodnet.specs.Forward.{moved, receivers, given, forwarded, deliveries}
-use Rattle.floodnet.specs.Topics.{withoutIf}
-use Rattle.floodnet.specs.Links.{unionIf, minusIf, keepIf, linkUp, linkDown, cleared, placed, left, joined}
+use Rattle.floodnet.specs.Links.{linkUp, linkDown, cleared, placed, left, joined}
 use Rattle.floodnet.specs.Refusals.{need, refusalProduce, refusalForward, refusalLeave, refusalJoin}
 use Rattle.events.specs.Kind.{kindOf}
 use Rattle.floodnet.specs.Step.{refusal, effect, ifAccepted, after, deliveriesOf, turned, turnedOf}
@@ -92,7 +91,7 @@ table = start ++ (refused ++ (leaving ++ (joining ++ (draining ++ again))))
 
 -- The test of a list of rows (specs/Worked.antt), with all that it takes to work it out.
 tested : List Row → Bool
-unfolding answer-is images-are drained-is join produce forward leave H bytes ended small proper same alike works every A7 runAll runFrom turnOf talliedOf refusal effect ifAccepted after kindOf deliveriesOf turned turnedOf need refusalProduce refusalForward refusalLeave refusalJoin unionIf minusIf keepIf linkUp linkDown cleared placed left joined withoutIf moved receivers given forwarded deliveries holders isNew produced putFields putHead readingOf readOf readingAt readAt decodeOf fieldsAt orSeven skipOk pairOk topicsOk leaveOk joinOk noMore noSets noMessage blankTable blankNet le putLe edit has union meet minus only withIf setOf sift size ones all view fwd together underway without image drainOf quietOf run row todo round drain
+unfolding answer-is images-are drained-is join produce forward leave H bytes ended small proper same alike works every A7 runAll runFrom turnOf talliedOf refusal effect ifAccepted after kindOf deliveriesOf turned turnedOf need refusalProduce refusalForward refusalLeave refusalJoin linkUp linkDown cleared placed left joined moved receivers given forwarded deliveries holders isNew produced putFields putHead readingOf readOf readingAt readAt decodeOf fieldsAt orSeven skipOk pairOk topicsOk leaveOk joinOk noMore noSets noMessage blankTable blankNet le putLe edit has union meet minus only when puts strikes empties setOf sift size ones all view fwd together underway without image drainOf quietOf run row todo round drain
 tested l = every l
 
 tested-hold : (l : List Row) → tested l ≡ true → Each l

@@ -14,13 +14,13 @@ use lib.Pow.{pow-mono}
 use lib.ListN.{length, getD, set, take, replicate, length-set, length-append, length-replicate, getD-replicate}
 use lib.Seq.{getD-set-same, getD-set-other, set-out, set-set, set-getD, ext-getD, take-all}
 use borrow.Author.Tests.{eq-eqb, lt-ltb, le-ltb}
-use Rattle.sets.specs.Set.{has, union, meet, minus, only, withIf, setOf, sift, lowest, digit, count}
+use Rattle.sets.specs.Set.{has, union, meet, minus, only, when, puts, withIf, setOf, sift, lowest, digit, count}
 use Rattle.sets.specs.Sums.{sum}
 use Rattle.sets.specs.Bools.{clash, bool2, or-left, or-right, eqb-same, ne-eqb, below-suc}
 use Rattle.sets.specs.Members.{members, has-union, has-meet, has-minus, has-none, has-only, has-with, has-with-other, ext}
 use Rattle.sets.specs.Bounds.{has-out, union-lt, meet-lt, only-lt}
 use Rattle.sets.specs.Algebra.{union-empty, union-assoc}
-use Rattle.sets.specs.Build.{has-withIf, setOf-lt, has-setOf-out, has-setOf, is-setOf, setOf-has, fill-none, fill-yes, fill-no, has-sift, sift-lt}
+use Rattle.sets.specs.Build.{has-puts, has-withIf, setOf-lt, has-setOf-out, has-setOf, is-setOf, setOf-has, fill-none, fill-yes, fill-no, has-sifted, sift-lt}
 use Rattle.sets.specs.Lowest.{lowest-has}
 use Rattle.sets.specs.Visits.{visit-new}
 use Rattle.lists.specs.Edit.{edit, length-edit, edit-none}
@@ -28,7 +28,6 @@ use Rattle.flooding.specs.Machine.{Pair, pair, run}
 use Rattle.flooding.specs.Loop.{run-snoc}
 use Rattle.network.specs.declared.Network.{Network}
 use Rattle.network.specs.Network.{peer, message}
-use Rattle.floodnet.specs.Links.{unionIf}
 use Rattle.floodnet.specs.Forward.{moved, receivers, given, forwarded}
 use Rattle.floodnet.specs.Produce.{holders}
 use Rattle.floodnet.specs.SoundBase.{has-set, has-edit}
@@ -38,44 +37,26 @@ use Rattle.floodnet.specs.CodeVisit.{edit-store, edit-then, Along, along-more}
 use Rattle.drain.specs.Pairs.{pairsOf}
 use Rattle.drain.specs.Lent.{Leads}
 
--- ---- sets
-
--- The members that pass are those of s that pass, wherever they are looked for.
-has-sifted : (n s : ℕ) (p : ℕ → Bool) → s < 2 ^ n → (i : ℕ) → has (sift n s p) i ≡ has s i && p i
-has-sifted n s p b i = go (decLt i n)
-  where
-    go : Dec (i < n) → has (sift n s p) i ≡ has s i && p i
-    go (yes l) = has-sift n s p i l
-    go (no l) =
-        let o : n ≤ i = omega arith in
-        has-out n (sift n s p) i (sift-lt n s p) o ∙ sym (ap (λ (x : Bool). x && p i) (has-out n s i b o))
-
--- w with s, where c is true: its members
-has-unionIf : (c : Bool) (s w j : ℕ) → has (unionIf c s w) j ≡ has w j || (c && has s j)
-unfolding unionIf
-has-unionIf true s w j = has-union w s j
-has-unionIf false s w j = sym (or-false (has w j))
-
 -- ---- `give_set`: the peers t get the messages of w that they have not seen
 
 unfoldable pub gives : ℕ → List ℕ → ℕ → ℕ → ℕ → ℕ
-gives w f t q x = unionIf (has t q) (minus w (getD f q 0)) x
+gives w f t q x = when (has t q) (puts (minus w (getD f q 0))) x
 
 -- nobody gets nothing
 pub gives-none : (w : ℕ) (f : List ℕ) (i x : ℕ) → gives w f 0 i x ≡ x
-unfolding gives unionIf
-gives-none w f i x = ap (λ (b : Bool). unionIf b (minus w (getD f i 0)) x) (has-none i)
+unfolding gives when puts
+gives-none w f i x = ap (λ (b : Bool). when b (puts (minus w (getD f i 0))) x) (has-none i)
 
 -- a turn: q gets its
 pub giving : {s left left′ q v : ℕ} {l₀ l : List ℕ} (w : ℕ) (f : List ℕ) → Along s left (gives w f) l₀ l → 0 < left → q ≡ lowest 32 left
     → left′ ≡ minus left (only (lowest 32 left)) → v ≡ union (getD l q 0) (minus w (getD f q 0)) → Along s left′ (gives w f) l₀ (set l q v)
-unfolding gives unionIf
+unfolding gives when puts
 giving {s} {left} {left′} {q} {v} {l₀} {l} w f a p eq el ev =
     along-more a p eq el
     (ap (set l q) ev ∙ ap (λ (k : List ℕ). set k q (union (getD k q 0) mine)) (a .made)
     ∙ edit-store (gives w f t) (gives w f (union t (only q))) (λ x. union x mine) l₀ q
-    (λ i d x. ap (λ (b : Bool). unionIf b (minus w (getD f i 0)) x) (has-with-other t q i (λ (e : q ≡ i). d (sym e))))
-    (λ x. ap (λ (b : Bool). unionIf b mine x) (has-with t q) ∙ sym (ap (λ (b : Bool). union (unionIf b mine x) mine) new)))
+    (λ i d x. ap (λ (b : Bool). when b (puts (minus w (getD f i 0))) x) (has-with-other t q i (λ (e : q ≡ i). d (sym e))))
+    (λ x. ap (λ (b : Bool). when b (puts mine) x) (has-with t q) ∙ sym (ap (λ (b : Bool). union (when b (puts mine) x) mine) new)))
   where
     t : ℕ
     t = minus s left
@@ -208,7 +189,7 @@ module _ {g ts f : List ℕ} {p todo : ℕ} (b : todo < 2 ^ 64) where
       made =
           ee ∙ ap (edit (gives w f s)) (v .made)
           ∙ edit-then (λ q x. union x (minus (reach g ts p (under ts todo t) q) (getD f q 0))) (gives w f s) (λ q x. union x (minus (reach g ts p (under ts todo (t + 1)) q) (getD f q 0))) e₀
-          (λ q x. ext _ _ (λ j. has-unionIf (has s q) (minus w (getD f q 0)) (union x (minus (reach g ts p (under ts todo t) q) (getD f q 0))) j
+          (λ q x. ext _ _ (λ j. has-puts (has s q) (minus w (getD f q 0)) (union x (minus (reach g ts p (under ts todo t) q) (getD f q 0))) j
           ∙ simp (members, has-reach g ts p (under ts todo t) q (under-lt ts todo t), has-reach g ts p (under ts todo (t + 1)) q (under-lt ts todo (t + 1)), has-under ts todo b t j, has-under ts todo b (t + 1) j, of-topic j, ltb-next (getD ts j 0) t)
           (go q j (has todo j) (has x j) (has (getD f q 0) j) (ℕ-discrete (getD ts j 0) t))));
       fit = λ j h k. fits j h (below-suc (getD ts j 0) t (rw add-one at k));
@@ -414,7 +395,7 @@ module _ (n : Network) (os e f g ts : List ℕ) (p : ℕ) where
   -- the first k of the messages of w
   run-pairs : (w : ℕ) → ((j : ℕ) → has w j ≡ true → near j < 2 ^ 32) → (k : ℕ) → k ≤ 64
       → run (fwd (table ts os)) (withMessages n e f g) (pairsOf p w k) ≡ withMessages n (wait (setOf k (has w))) (had (setOf k (has w))) g
-  unfolding pairsOf run setOf withIf more
+  unfolding pairsOf run setOf when puts more
   run-pairs w fit zero l = sym (ap₂ (λ (x y : List ℕ). withMessages n x y g) wait-none had-none)
   run-pairs w fit (suc k) l = go (has w k) refl (run-pairs w fit k (omega arith))
     where

@@ -7,13 +7,13 @@ use native.Mathlib.Omega.{arith}
 use lib.Dec.{eqb}
 use lib.ListN.{getD, set}
 use borrow.Author.Tests.{eqb-true}
-use Rattle.sets.specs.Set.{has, union, minus, only, lowest}
+use Rattle.sets.specs.Set.{has, union, minus, only, puts, strikes, lowest}
 use Rattle.sets.specs.Bools.{bool2, eqb-same}
 use Rattle.sets.specs.Members.{has-union, has-none, has-only, has-with, has-with-other}
 use Rattle.lists.specs.Edit.{edit}
 use Rattle.network.specs.declared.Peer.{Peer}
 use Rattle.floodnet.specs.Topics.{noted, struck}
-use Rattle.floodnet.specs.CodeWhen.{picks, picks-with, picks-without, puts, strikes, Next, Picking, picking-store}
+use Rattle.floodnet.specs.CodeWhen.{picks, Next, Picking, picking-store}
 
 -- peer q has m pending or seen
 unfoldable pub holding : List ℕ → List ℕ → ℕ → ℕ → Bool
@@ -34,17 +34,10 @@ next-has t q new = record {
   on = has-with t q;
 }
 
--- a turn of `give` and `mark`: p is put in at q
-pub marking : {s left left′ q v : ℕ} {l₀ l : List ℕ} (p : ℕ) → Picking s left has (puts p) l₀ l → 0 < left → q ≡ lowest 32 left → left′ ≡ minus left (only (lowest 32 left))
-    → v ≡ union (getD l q 0) (only p) → Picking s left′ has (puts p) l₀ (set l q v)
-unfolding puts
-marking {q = q} p a b eq el ev = picking-store has (puts p) q a b eq el ev (λ t new c. next-has t q new)
-
--- a turn of `unmark`: p is struck out at q
-pub unmarking : {s left left′ q v : ℕ} {l₀ l : List ℕ} (p : ℕ) → Picking s left has (strikes (only p)) l₀ l → 0 < left → q ≡ lowest 32 left → left′ ≡ minus left (only (lowest 32 left))
-    → v ≡ minus (getD l q 0) (only p) → Picking s left′ has (strikes (only p)) l₀ (set l q v)
-unfolding strikes
-unmarking {q = q} p a b eq el ev = picking-store has (strikes (only p)) q a b eq el ev (λ t new c. next-has t q new)
+-- a turn: h is done at q
+pub marking : {s left left′ q v : ℕ} {l₀ l : List ℕ} (h : ℕ → ℕ) → Picking s left has h l₀ l → 0 < left → q ≡ lowest 32 left → left′ ≡ minus left (only (lowest 32 left))
+    → v ≡ h (getD l q 0) → Picking s left′ has h l₀ (set l q v)
+marking {q = q} h a b eq el ev = picking-store has h q a b eq el ev (λ t new c. next-has t q new)
 
 -- ---- rows of `known`: the word of topic t at peer q stands at q * 32 + t
 
@@ -83,24 +76,17 @@ next-inside r t q new small = record {
         ap (λ (b : Bool). has (only r) (i / 32) && b) (has-with-other t q (i % 32) (λ (y : q ≡ i % 32). d (omega arith)))
     go i d false e = rw (has-only r (i / 32), e) refl
 
--- a turn of `row_note`: p is put in for the topic q
-pub noting : {s left left′ q k v : ℕ} {l₀ l : List ℕ} (r p : ℕ) → Picking s left (inside (only r)) (puts p) l₀ l → 0 < left → q ≡ lowest 32 left
-    → left′ ≡ minus left (only (lowest 32 left)) → k ≡ r * 32 + q → v ≡ union (getD l k 0) (only p) → Picking s left′ (inside (only r)) (puts p) l₀ (set l k v)
-unfolding puts
-noting {q = q} {k = k} r p a b eq el ek ev = picking-store (inside (only r)) (puts p) k a b eq el ev (λ t n c. rw ek (next-inside r t q n c))
-
--- a turn of `row_strike`: p is struck out for the topic q
-pub striking : {s left left′ q k v : ℕ} {l₀ l : List ℕ} (r p : ℕ) → Picking s left (inside (only r)) (strikes (only p)) l₀ l → 0 < left → q ≡ lowest 32 left
-    → left′ ≡ minus left (only (lowest 32 left)) → k ≡ r * 32 + q → v ≡ minus (getD l k 0) (only p) → Picking s left′ (inside (only r)) (strikes (only p)) l₀ (set l k v)
-unfolding strikes
-striking {q = q} {k = k} r p a b eq el ek ev = picking-store (inside (only r)) (strikes (only p)) k a b eq el ev (λ t n c. rw ek (next-inside r t q n c))
+-- a turn of `row_note` and `row_strike`: h is done for the topic q
+pub noting : {s left left′ q k v : ℕ} {l₀ l : List ℕ} (r : ℕ) (h : ℕ → ℕ) → Picking s left (inside (only r)) h l₀ l → 0 < left → q ≡ lowest 32 left
+    → left′ ≡ minus left (only (lowest 32 left)) → k ≡ r * 32 + q → v ≡ h (getD l k 0) → Picking s left′ (inside (only r)) h l₀ (set l k v)
+noting {q = q} {k = k} r h a b eq el ek ev = picking-store (inside (only r)) h k a b eq el ev (λ t n c. rw ek (next-inside r t q n c))
 
 -- such edits in the words of Topics
-pub inside-noted : (s topics : ℕ) (p : Peer) (l : List ℕ) → edit (picks (inside s topics) (puts (p .0))) l ≡ noted s topics p l
+pub inside-noted : (s topics : ℕ) (p : Peer) (l : List ℕ) → edit (picks (inside s topics) (puts (only (p .0)))) l ≡ noted s topics p l
 unfolding inside noted
-inside-noted s topics p l = picks-with (inside s topics) (p .0) l
+inside-noted s topics p l = refl
 
 -- the same, struck out
 pub inside-struck : (s topics : ℕ) (p : Peer) (l : List ℕ) → edit (picks (inside s topics) (strikes (only (p .0)))) l ≡ struck s topics p l
 unfolding inside struck
-inside-struck s topics p l = picks-without (inside s topics) (p .0) l
+inside-struck s topics p l = refl

@@ -1,17 +1,16 @@
 -- One row of `known`, word by word, and the rows of the members of a set, row by row. Assumes nothing.
 use mathlib.Core.Path.{_≡_, refl, ap, _∙_}
-use mathlib.Core.Bool.{Bool, true, false, not, _&&_}
+use mathlib.Core.Bool.{Bool, true, false, _&&_}
 use mathlib.Core.List.{List}
 use Prim.Native.Nat.{ℕ, _+_, _*_, _/_, _%_, _<_}
 use native.Mathlib.Omega.{arith}
 use lib.Dec.{eqb, ltb}
 use lib.ListN.{getD, set}
 use borrow.Author.Tests.{eqb-true, lt-ltb, le-ltb, ltb-true}
-use Rattle.sets.specs.Set.{minus}
+use Rattle.sets.specs.Set.{when}
 use Rattle.sets.specs.Bools.{bool2, eqb-same, bool-ext}
 use Rattle.lists.specs.Edit.{edit, edit-none}
-use Rattle.floodnet.specs.Links.{minusIf, keepIf}
-use Rattle.floodnet.specs.CodeWhen.{strikes, blanks, picks, picks-none, picks-same, picks-store, picks-minus, picks-keep, Next}
+use Rattle.floodnet.specs.CodeWhen.{picks, picks-none, picks-same, picks-store, Next}
 
 -- the first n words of row r
 unfoldable pub front : ℕ → ℕ → ℕ → Bool
@@ -56,31 +55,12 @@ pub row-none : (r : ℕ) (h : ℕ → ℕ) (l : List ℕ) → l ≡ edit (picks 
 row-none r h l = edit-none (picks (front r 0) h) l (λ i. picks-none (front r 0) h i (getD l i 0) (front-none r i))
 
 -- one word more is stored to
-row-more : (r n : ℕ) (h : ℕ → ℕ) (l₀ : List ℕ) {k v : ℕ} {l : List ℕ} → n < 32 → l ≡ edit (picks (front r n) h) l₀ → k ≡ r * 32 + n → v ≡ h (getD l k 0)
+pub row-more : (r n : ℕ) (h : ℕ → ℕ) (l₀ : List ℕ) {k v : ℕ} {l : List ℕ} → n < 32 → l ≡ edit (picks (front r n) h) l₀ → k ≡ r * 32 + n → v ≡ h (getD l k 0)
     → set l k v ≡ edit (picks (front r (n + 1)) h) l₀
 row-more r n h l₀ {k} {v} {l} b e ek ev =
     ap (set l k) ev ∙ ap (λ (x : List ℕ). set x k (h (getD x k 0))) e
     ∙ picks-store (front r n) (front r (n + 1)) h l₀ k (rw ek (front-next r n b))
 
 -- the whole row
-row-all : (r : ℕ) (h : ℕ → ℕ) (l : List ℕ) → edit (picks (front r 32) h) l ≡ edit (picks (λ i. eqb (i / 32) r) h) l
-row-all r h l = picks-same (front r 32) (λ i. eqb (i / 32) r) h l (front-all r)
-
--- the loop that strikes out s
-pub row-minus-more : (r n s : ℕ) (l₀ : List ℕ) {k v : ℕ} {l : List ℕ} → n < 32 → l ≡ edit (picks (front r n) (strikes s)) l₀ → k ≡ r * 32 + n
-    → v ≡ minus (getD l k 0) s → set l k v ≡ edit (picks (front r (n + 1)) (strikes s)) l₀
-unfolding strikes
-row-minus-more r n s = row-more r n (strikes s)
-
--- the whole row without s
-pub row-minus-all : (r n s : ℕ) (l₀ : List ℕ) {l : List ℕ} → l ≡ edit (picks (front r n) (strikes s)) l₀ → n ≡ 32 → l ≡ edit (λ i w. minusIf (eqb (i / 32) r) s w) l₀
-row-minus-all r n s l₀ e z = e ∙ ap (λ (x : ℕ). edit (picks (front r x) (strikes s)) l₀) z ∙ row-all r (strikes s) l₀ ∙ picks-minus (λ i. eqb (i / 32) r) s l₀
-
--- the loop that strikes out all
-pub row-clear-more : (r n : ℕ) (l₀ : List ℕ) {k : ℕ} {l : List ℕ} → n < 32 → l ≡ edit (picks (front r n) blanks) l₀ → k ≡ r * 32 + n → set l k 0 ≡ edit (picks (front r (n + 1)) blanks) l₀
-unfolding blanks
-row-clear-more r n l₀ b e ek = row-more r n blanks l₀ b e ek refl
-
--- the whole row blank
-pub row-clear-all : (r n : ℕ) (l₀ : List ℕ) {l : List ℕ} → l ≡ edit (picks (front r n) blanks) l₀ → n ≡ 32 → l ≡ edit (λ i w. keepIf (not (eqb (i / 32) r)) w) l₀
-row-clear-all r n l₀ e z = e ∙ ap (λ (x : ℕ). edit (picks (front r x) blanks) l₀) z ∙ row-all r blanks l₀ ∙ picks-keep (λ i. eqb (i / 32) r) l₀
+pub row-all : (r n : ℕ) (h : ℕ → ℕ) (l₀ : List ℕ) {l : List ℕ} → l ≡ edit (picks (front r n) h) l₀ → n ≡ 32 → l ≡ edit (λ i w. when (eqb (i / 32) r) h w) l₀
+row-all r n h l₀ e z = e ∙ ap (λ (x : ℕ). edit (picks (front r x) h) l₀) z ∙ picks-same (front r 32) (λ i. eqb (i / 32) r) h l₀ (front-all r)

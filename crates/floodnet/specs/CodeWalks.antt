@@ -6,7 +6,7 @@ use Prim.Native.Nat.{ℕ, _/_, _%_, _<_}
 use lib.Dec.{eqb}
 use lib.ListN.{getD}
 use borrow.Author.Tests.{eqb-true, eq-eqb}
-use Rattle.sets.specs.Set.{has, union, minus, only, withIf, sift, lowest}
+use Rattle.sets.specs.Set.{has, union, minus, only, when, puts, strikes, withIf, sift, lowest}
 use Rattle.sets.specs.Bools.{bool2, bool-ext}
 use Rattle.sets.specs.Members.{members, has-union, has-none, has-only, ext}
 use Rattle.sets.specs.Build.{has-withIf}
@@ -14,11 +14,10 @@ use Rattle.sets.specs.Lowest.{lowest-has, lowest-lt}
 use Rattle.sets.specs.Visits.{setOf-none, visit-step, sift-step}
 use Rattle.lists.specs.Edit.{edit}
 use Rattle.network.specs.declared.Peer.{Peer}
-use Rattle.floodnet.specs.Topics.{noted, struck, withoutIf}
-use Rattle.floodnet.specs.Links.{unionIf, minusIf}
+use Rattle.floodnet.specs.Topics.{noted}
 use Rattle.floodnet.specs.CodeVisit.{Along, along-more, edit-then}
-use Rattle.floodnet.specs.CodeWhen.{picks, picks-without, picks-minus, puts, strikes, puts-twice, strikes-twice, Picking, picking-edit}
-use Rattle.floodnet.specs.CodeArrays.{inside, inside-noted, inside-struck}
+use Rattle.floodnet.specs.CodeWhen.{picks, strikes-twice, Picking, picking-edit}
+use Rattle.floodnet.specs.CodeArrays.{inside}
 
 -- the test of equality is symmetric
 eqb-swap : (a b : ℕ) → eqb a b ≡ eqb b a
@@ -35,20 +34,11 @@ inside-more q topics t i = ap (λ (b : Bool). b && has topics (i % 32)) (has-uni
     go true false false = refl
     go false b c = refl
 
--- a turn of `note_all`
-pub noting-row : {s left left′ : ℕ} {q : Peer} {l₀ l l′ : List ℕ} (topics : ℕ) (p : Peer) → Picking s left (λ t. inside t topics) (puts (p .0)) l₀ l → 0 < left
-    → q .0 ≡ lowest 32 left → left′ ≡ minus left (only (lowest 32 left)) → l′ ≡ noted (only (q .0)) topics p l → Picking s left′ (λ t. inside t topics) (puts (p .0)) l₀ l′
-noting-row {q = q} {l = l} topics p a b eq el e =
-    picking-edit (λ t. inside t topics) (puts (p .0)) (inside (only (q .0)) topics) (puts-twice (p .0)) a b eq el (e ∙ sym (inside-noted (only (q .0)) topics p l))
-    (λ t i. inside-more (q .0) topics t i)
-
--- a turn of `strike_all`
-pub striking-row : {s left left′ : ℕ} {q : Peer} {l₀ l l′ : List ℕ} (topics : ℕ) (p : Peer) → Picking s left (λ t. inside t topics) (strikes (only (p .0))) l₀ l → 0 < left
-    → q .0 ≡ lowest 32 left → left′ ≡ minus left (only (lowest 32 left)) → l′ ≡ struck (only (q .0)) topics p l
-    → Picking s left′ (λ t. inside t topics) (strikes (only (p .0))) l₀ l′
-striking-row {q = q} {l = l} topics p a b eq el e =
-    picking-edit (λ t. inside t topics) (strikes (only (p .0))) (inside (only (q .0)) topics) (strikes-twice (only (p .0))) a b eq el
-    (e ∙ sym (inside-struck (only (q .0)) topics p l)) (λ t i. inside-more (q .0) topics t i)
+-- a turn of `note_all` and `strike_all`: h is done in the row of q
+pub noting-row : {s left left′ : ℕ} {q : Peer} {l₀ l l′ : List ℕ} (topics : ℕ) (h : ℕ → ℕ) → ((x : ℕ) → h (h x) ≡ h x) → Picking s left (λ t. inside t topics) h l₀ l → 0 < left
+    → q .0 ≡ lowest 32 left → left′ ≡ minus left (only (lowest 32 left)) → l′ ≡ edit (picks (inside (only (q .0)) topics) h) l → Picking s left′ (λ t. inside t topics) h l₀ l′
+noting-row {q = q} topics h twice a b eq el e =
+    picking-edit (λ t. inside t topics) h (inside (only (q .0)) topics) twice a b eq el e (λ t i. inside-more (q .0) topics t i)
 
 -- the rows of the peers s
 unfoldable pub rows : ℕ → ℕ → Bool
@@ -66,26 +56,26 @@ rows-more q t i = has-union t (only q) (i / 32) ∙ ap (λ (b : Bool). has t (i 
 
 -- a turn of `drop_all`
 pub dropping-row : {s left left′ : ℕ} {q : Peer} {l₀ l l′ : List ℕ} (p : ℕ) → Picking s left rows (strikes p) l₀ l → 0 < left → q .0 ≡ lowest 32 left
-    → left′ ≡ minus left (only (lowest 32 left)) → l′ ≡ edit (λ i w. minusIf (eqb (i / 32) (q .0)) p w) l → Picking s left′ rows (strikes p) l₀ l′
-dropping-row {q = q} {l = l} p a b eq el e =
-    picking-edit rows (strikes p) (λ i. eqb (i / 32) (q .0)) (strikes-twice p) a b eq el (e ∙ sym (picks-minus (λ i. eqb (i / 32) (q .0)) p l))
+    → left′ ≡ minus left (only (lowest 32 left)) → l′ ≡ edit (λ i w. when (eqb (i / 32) (q .0)) (strikes p) w) l → Picking s left′ rows (strikes p) l₀ l′
+dropping-row {q = q} p a b eq el e =
+    picking-edit rows (strikes p) (λ i. eqb (i / 32) (q .0)) (strikes-twice p) a b eq el e
     (λ t i. rows-more (q .0) t i)
 
 -- all of it, where `own` was made from nothing
-pub rows-dropped : (s p own : ℕ) (l : List ℕ) → own ≡ union 0 (only p) → edit (picks (rows s) (strikes own)) l ≡ edit (λ i w. withoutIf (has s (i / 32)) p w) l
+pub rows-dropped : (s p own : ℕ) (l : List ℕ) → own ≡ union 0 (only p) → edit (picks (rows s) (strikes own)) l ≡ edit (λ i w. when (has s (i / 32)) (strikes (only p)) w) l
 unfolding rows
-rows-dropped s p own l e = ap (λ (x : ℕ). edit (picks (rows s) (strikes x)) l) (e ∙ alone) ∙ picks-without (rows s) p l
+rows-dropped s p own l e = ap (λ (x : ℕ). edit (picks (rows s) (strikes x)) l) (e ∙ alone)
   where
     alone : union 0 (only p) ≡ only p
     alone = ext (union 0 (only p)) (only p) (λ j. simp members)
 
 -- ---- `learn`: p's row gets, for each topic, those of s that are subscribed to it
 unfoldable pub learnt : ℕ → List ℕ → ℕ → ℕ → ℕ → ℕ
-learnt p subs s i w = unionIf (eqb (i / 32) p) (sift 32 s (λ q. has (getD subs q 0) (i % 32))) w
+learnt p subs s i w = when (eqb (i / 32) p) (puts (sift 32 s (λ q. has (getD subs q 0) (i % 32)))) w
 
 -- of nobody, nothing is learnt
 pub learnt-none : (p : ℕ) (subs : List ℕ) (i x : ℕ) → learnt p subs 0 i x ≡ x
-unfolding learnt unionIf sift
+unfolding learnt when puts sift
 learnt-none p subs i x = go (eqb (i / 32) p)
   where
     empty : sift 32 0 (λ q. has (getD subs q 0) (i % 32)) ≡ 0
@@ -94,7 +84,7 @@ learnt-none p subs i x = go (eqb (i / 32) p)
     or-none : union x 0 ≡ x
     or-none = ext (union x 0) x (λ j. simp members (bool2 (λ (a b : Bool). a || false ≡ a) refl refl refl refl (has x j) false))
 
-    go : (b : Bool) → unionIf b (sift 32 0 (λ q. has (getD subs q 0) (i % 32))) x ≡ x
+    go : (b : Bool) → when b (puts (sift 32 0 (λ q. has (getD subs q 0) (i % 32)))) x ≡ x
     go true = ap (union x) empty ∙ or-none
     go false = refl
 
@@ -109,7 +99,7 @@ with-later b q w s = ext (withIf b q (union w s)) (union w (withIf b q s)) (λ j
 -- a turn of `learn`
 pub learning : {s left left′ q : ℕ} {l₀ l l′ : List ℕ} (p : ℕ) (subs : List ℕ) → Along s left (learnt p subs) l₀ l → 0 < left → q ≡ lowest 32 left
     → left′ ≡ minus left (only (lowest 32 left)) → l′ ≡ noted (only p) (getD subs q 0) (record { 0 = q }) l → Along s left′ (learnt p subs) l₀ l′
-unfolding learnt noted unionIf withIf
+unfolding learnt noted when puts
 learning {s} {left} {left′} {q} {l₀} {l} {l′} p subs a b eq el e =
     along-more a b eq el (e ∙ ap (edit note) (a .made) ∙ edit-then (learnt p subs t) note (learnt p subs (union t (only q))) l₀ step)
   where
@@ -133,8 +123,8 @@ learning {s} {left} {left′} {q} {l₀} {l} {l′} p subs a b eq el e =
     step : (i x : ℕ) → note i (learnt p subs t i x) ≡ learnt p subs (union t (only q)) i x
     step i x = ap (λ (c : Bool). withIf (c && has (getD subs q 0) (i % 32)) q (learnt p subs t i x)) (has-only p (i / 32) ∙ eqb-swap p (i / 32)) ∙ go (eqb (i / 32) p)
       where
-        go : (c : Bool) → withIf (c && has (getD subs q 0) (i % 32)) q (unionIf c (sift 32 t (λ j. has (getD subs j 0) (i % 32))) x)
-            ≡ unionIf c (sift 32 (union t (only q)) (λ j. has (getD subs j 0) (i % 32))) x
+        go : (c : Bool) → withIf (c && has (getD subs q 0) (i % 32)) q (when c (puts (sift 32 t (λ j. has (getD subs j 0) (i % 32)))) x)
+            ≡ when c (puts (sift 32 (union t (only q)) (λ j. has (getD subs j 0) (i % 32)))) x
         go true =
             with-later (has (getD subs q 0) (i % 32)) q x (sift 32 t (λ j. has (getD subs j 0) (i % 32))) ∙ ap (union x) (sym (grown (i % 32)))
         go false = refl

@@ -1,94 +1,39 @@
--- Edits that do one thing, h, at the places that a test b picks. Most loops of src/arrays.rt make such an edit: with p put in,
--- with p or the set s struck out, or blank, at some places. Assumes nothing.
+-- Edits that do one thing, h, at the places that a test b picks. Most loops of src/arrays.rt and src/rows.rt make such an edit:
+-- a set put in, struck out, or emptied, at some places. Assumes nothing.
 use mathlib.Core.Path.{_≡_, refl, sym, ap, _∙_}
 use mathlib.Core.Bool.{Bool, true, false, not, _&&_, _||_}
 use mathlib.Core.List.{List}
 use Prim.Native.Nat.{ℕ, _^_, _<_}
-use lib.Dec.{eqb}
 use lib.ListN.{getD, set}
-use Rattle.sets.specs.Set.{has, union, minus, only, withIf, lowest}
+use Rattle.sets.specs.Set.{has, union, minus, only, when, puts, strikes, lowest}
 use Rattle.sets.specs.Bools.{bool2}
 use Rattle.sets.specs.Members.{members, ext}
 use Rattle.sets.specs.Lowest.{lowest-has, lowest-lt}
 use Rattle.sets.specs.Visits.{visit-new}
 use Rattle.lists.specs.Edit.{edit}
-use Rattle.floodnet.specs.Topics.{withoutIf}
-use Rattle.floodnet.specs.Links.{minusIf, keepIf}
 use Rattle.floodnet.specs.CodeVisit.{edit-store, edit-then, edit-alike, Along, along-none, along-more}
 
--- h of w, where b is true
-unfoldable pub when : Bool → (ℕ → ℕ) → ℕ → ℕ
-when true h w = h w
-when false h w = w
-
 -- h at the places where b is true
-unfoldable pub picks : (ℕ → Bool) → (ℕ → ℕ) → ℕ → ℕ → ℕ
+abbrev pub picks : (ℕ → Bool) → (ℕ → ℕ) → ℕ → ℕ → ℕ
 picks b h i w = when (b i) h w
 
--- what is done: p put in; the members of s struck out; all struck out
-unfoldable pub puts : ℕ → ℕ → ℕ
-puts p w = union w (only p)
-
-unfoldable pub strikes : ℕ → ℕ → ℕ
-strikes s w = minus w s
-
-unfoldable pub blanks : ℕ → ℕ
-blanks w = 0
-
 -- putting in twice is putting in once, and so is striking out
-pub puts-twice : (p x : ℕ) → puts p (puts p x) ≡ puts p x
+pub puts-twice : (s x : ℕ) → puts s (puts s x) ≡ puts s x
 unfolding puts
-puts-twice p x = ext (union (union x (only p)) (only p)) (union x (only p)) (λ i. simp members (bool2 (λ (a b : Bool). (a || b) || b ≡ a || b) refl refl refl refl (has x i) (eqb p i)))
+puts-twice s x = ext (union (union x s) s) (union x s) (λ i. simp members (bool2 (λ (a b : Bool). (a || b) || b ≡ a || b) refl refl refl refl (has x i) (has s i)))
 
 -- striking out twice is striking out once
 pub strikes-twice : (s x : ℕ) → strikes s (strikes s x) ≡ strikes s x
 unfolding strikes
 strikes-twice s x = ext (minus (minus x s) s) (minus x s) (λ i. simp members (bool2 (λ (a b : Bool). (a && not b) && not b ≡ a && not b) refl refl refl refl (has x i) (has s i)))
 
--- the same edits in the words of Produce, Topics and Links
-pub picks-with : (b : ℕ → Bool) (p : ℕ) (l : List ℕ) → edit (picks b (puts p)) l ≡ edit (λ i w. withIf (b i) p w) l
-unfolding picks when puts withIf
-picks-with b p l = edit-alike (picks b (puts p)) (λ i w. withIf (b i) p w) l (λ i x. go (b i) x)
-  where
-    go : (t : Bool) (x : ℕ) → when t (puts p) x ≡ withIf t p x
-    go true x = refl
-    go false x = refl
-
--- p struck out
-pub picks-without : (b : ℕ → Bool) (p : ℕ) (l : List ℕ) → edit (picks b (strikes (only p))) l ≡ edit (λ i w. withoutIf (b i) p w) l
-unfolding picks when strikes withoutIf
-picks-without b p l = edit-alike (picks b (strikes (only p))) (λ i w. withoutIf (b i) p w) l (λ i x. go (b i) x)
-  where
-    go : (t : Bool) (x : ℕ) → when t (strikes (only p)) x ≡ withoutIf t p x
-    go true x = refl
-    go false x = refl
-
--- the members of s struck out
-pub picks-minus : (b : ℕ → Bool) (s : ℕ) (l : List ℕ) → edit (picks b (strikes s)) l ≡ edit (λ i w. minusIf (b i) s w) l
-unfolding picks when strikes minusIf
-picks-minus b s l = edit-alike (picks b (strikes s)) (λ i w. minusIf (b i) s w) l (λ i x. go (b i) x)
-  where
-    go : (t : Bool) (x : ℕ) → when t (strikes s) x ≡ minusIf t s x
-    go true x = refl
-    go false x = refl
-
--- all struck out
-pub picks-keep : (b : ℕ → Bool) (l : List ℕ) → edit (picks b blanks) l ≡ edit (λ i w. keepIf (not (b i)) w) l
-unfolding picks when blanks keepIf
-picks-keep b l = edit-alike (picks b blanks) (λ i w. keepIf (not (b i)) w) l (λ i x. go (b i) x)
-  where
-    go : (t : Bool) (x : ℕ) → when t blanks x ≡ keepIf (not t) x
-    go true x = refl
-    go false x = refl
-
 -- nothing is picked
 pub picks-none : (b : ℕ → Bool) (h : ℕ → ℕ) (i x : ℕ) → b i ≡ false → picks b h i x ≡ x
-unfolding picks when
+unfolding when
 picks-none b h i x e = ap (λ (t : Bool). when t h x) e
 
 -- the same places are picked
 pub picks-same : (b d : ℕ → Bool) (h : ℕ → ℕ) (l : List ℕ) → ((i : ℕ) → b i ≡ d i) → edit (picks b h) l ≡ edit (picks d h) l
-unfolding picks
 picks-same b d h l e = edit-alike (picks b h) (picks d h) l (λ i x. ap (λ (t : Bool). when t h x) (e i))
 
 -- d picks what b picks, and the place k
@@ -99,7 +44,7 @@ pub record Next (b d : ℕ → Bool) (k : ℕ) : Type 0 where
 
 -- one place more, by a store there
 pub picks-store : (b d : ℕ → Bool) (h : ℕ → ℕ) (l : List ℕ) (k : ℕ) → Next b d k → set (edit (picks b h) l) k (h (getD (edit (picks b h) l) k 0)) ≡ edit (picks d h) l
-unfolding picks when
+unfolding when
 picks-store b d h l k n =
     edit-store (picks b h) (picks d h) h l k
     (λ i z x. ap (λ (t : Bool). when t h x) (n .others i z))
@@ -107,7 +52,7 @@ picks-store b d h l k n =
 
 -- more places, by an edit of those
 pub picks-more : (b d e : ℕ → Bool) (h : ℕ → ℕ) (l : List ℕ) → ((x : ℕ) → h (h x) ≡ h x) → ((i : ℕ) → e i ≡ b i || d i) → edit (picks d h) (edit (picks b h) l) ≡ edit (picks e h) l
-unfolding picks when
+unfolding when
 picks-more b d e h l twice both = edit-then (picks b h) (picks d h) (picks e h) l (λ i x. go (b i) (d i) (e i) x (both i))
   where
     go : (s t u : Bool) (x : ℕ) → u ≡ s || t → when t h (when s h x) ≡ when u h x

@@ -1,49 +1,35 @@
 -- Join and leave, from "both sides record" and "both sides forget" over a set of peers. Assumes nothing.
-use mathlib.Core.Bool.{Bool, true, false, not, _&&_}
+use mathlib.Core.Bool.{_&&_}
 use Prim.Native.Nat.{ℕ, _/_, _%_}
 use lib.Dec.{eqb}
 use lib.ListN.{set}
-use Rattle.sets.specs.Set.{has, union, minus, only, withIf, sift}
+use Rattle.sets.specs.Set.{has, union, minus, only, when, puts, strikes, empties, withIf, sift}
 use Rattle.lists.specs.Edit.{edit}
 use Rattle.network.specs.declared.Peer.{Peer}
 use Rattle.network.specs.declared.Network.{Network}
 use Rattle.network.specs.Network.{withPresent, withPubs, withSubs, withNeighbours, withKnown, withAll, peer, topic, subsOf, neighboursOf, subscribed}
-use Rattle.floodnet.specs.Topics.{withoutIf}
-
--- where b is true: w with s; w without s. And w where b is true, else nothing.
-unfoldable pub unionIf : Bool → ℕ → ℕ → ℕ
-unionIf true s w = union w s
-unionIf false s w = w
-
-unfoldable pub minusIf : Bool → ℕ → ℕ → ℕ
-minusIf true s w = minus w s
-minusIf false s w = w
-
-unfoldable pub keepIf : Bool → ℕ → ℕ
-keepIf true w = w
-keepIf false w = 0
 
 -- "both sides record link and subscriptions": p and each peer of `who` list each other; each of `who` knows p for each of
 -- p's topics, and p knows each of `who` for each of theirs.
 unfoldable pub linkUp : Network → Peer → ℕ → Network
 linkUp n p who =
-    withKnown (withNeighbours n (edit (λ q w. withIf (has who q) (p .0) (unionIf (eqb q (p .0)) who w)) (n .neighbours)))
+    withKnown (withNeighbours n (edit (λ q w. withIf (has who q) (p .0) (when (eqb q (p .0)) (puts who) w)) (n .neighbours)))
     (edit
-    (λ i w. unionIf (eqb (i / 32) (p .0)) (sift 32 who (λ q. subscribed n (peer q) (topic (i % 32))))
+    (λ i w. when (eqb (i / 32) (p .0)) (puts (sift 32 who (λ q. subscribed n (peer q) (topic (i % 32)))))
     (withIf (has who (i / 32) && has (subsOf n p) (i % 32)) (p .0) w)) (n .known))
 
 -- Both sides forget: p and each peer of `who` no longer list each other, nor know each other for any topic.
 unfoldable pub linkDown : Network → Peer → ℕ → Network
 linkDown n p who =
-    withKnown (withNeighbours n (edit (λ q w. withoutIf (has who q) (p .0) (minusIf (eqb q (p .0)) who w)) (n .neighbours)))
-    (edit (λ i w. minusIf (eqb (i / 32) (p .0)) who (withoutIf (has who (i / 32)) (p .0) w)) (n .known))
+    withKnown (withNeighbours n (edit (λ q w. when (has who q) (strikes (only (p .0))) (when (eqb q (p .0)) (strikes who) w)) (n .neighbours)))
+    (edit (λ i w. when (eqb (i / 32) (p .0)) (strikes who) (when (has who (i / 32)) (strikes (only (p .0))) w)) (n .known))
 
 -- "record becomes zero"
 unfoldable pub cleared : Network → Peer → Network
 cleared n p =
     withAll n (minus (n .present) (only (p .0))) (set (n .pubs) (p .0) 0) (set (n .subs) (p .0) 0) (set (n .neighbours) (p .0) 0)
     (set (n .pending) (p .0) 0) (set (n .seen) (p .0) 0)
-    (edit (λ i w. keepIf (not (eqb (i / 32) (p .0))) w) (n .known))
+    (edit (λ i w. when (eqb (i / 32) (p .0)) empties w) (n .known))
 
 -- p is present, with these topics
 unfoldable pub placed : Network → Peer → ℕ → ℕ → Network

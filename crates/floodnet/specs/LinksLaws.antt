@@ -10,11 +10,11 @@ use native.Mathlib.Decide.{decLt}
 use borrow.Author.Tests.{eqb-true}
 use lib.Dec.{eqb}
 use lib.ListN.{length, getD}
-use Rattle.sets.specs.Set.{has, minus, withIf, sift, Subset}
+use Rattle.sets.specs.Set.{has, minus, only, when, puts, strikes, withIf, sift, Subset}
 use Rattle.sets.specs.Bools.{clash, not-false, and-yes, and-no, or-yes, ne-eqb, and-eqb}
 use Rattle.sets.specs.Members.{has-none}
 use Rattle.sets.specs.Bounds.{has-out}
-use Rattle.sets.specs.Build.{has-withIf, withIf-lt, has-sift, sift-lt}
+use Rattle.sets.specs.Build.{has-puts, has-strikes, has-withIf, has-withoutIf, puts-lt, strikes-lt, withIf-lt, has-sifted, sift-lt}
 use Rattle.sets.specs.Lowest.{none-empty}
 use Rattle.sets.specs.Subsets.{subset-of-minus}
 use Rattle.lists.specs.Edit.{length-edit, getD-edit, getD-edit-out, edit-below}
@@ -24,10 +24,9 @@ use Rattle.network.specs.declared.Network.{Network}
 use Rattle.network.specs.Network.{withNeighbours, withKnown, peer, topic, subsOf, neighboursOf, knownOf, present, linked, subscribed, knows, Shaped}
 use Rattle.network.specs.Sound.{Sound}
 use Rattle.network.specs.SoundLaws.{linked-peer}
-use Rattle.floodnet.specs.Topics.{withoutIf}
-use Rattle.floodnet.specs.Links.{unionIf, minusIf, linkUp, linkDown}
+use Rattle.floodnet.specs.Links.{linkUp, linkDown}
 use Rattle.floodnet.specs.SoundBase.{eqb-sym}
-use Rattle.floodnet.specs.Places.{has-withoutIf, has-unionIf, has-minusIf, withoutIf-lt, unionIf-lt, minusIf-lt, edit-spot, linked-turn}
+use Rattle.floodnet.specs.Places.{edit-spot, linked-turn}
 
 -- One of a and c is p, and the other is of `who`: the link is one of those that are recorded or forgotten.
 abbrev pub between : Peer → ℕ → Peer → Peer → Bool
@@ -57,18 +56,18 @@ down-rest n p who = record { present = refl; pubs = refl; subs = refl; pending =
 pub linked-up : {n : Network} → Shaped n → (p : Peer) (who : ℕ) (a c : Peer) → a .0 < 32 → linked (linkUp n p who) a c ≡ linked n a c || between p who a c
 unfolding linkUp
 linked-up {n} s p who a c ha =
-    ap (λ (w : ℕ). has w (c .0)) (getD-edit (λ q w. withIf (has who q) (p .0) (unionIf (eqb q (p .0)) who w)) (n .neighbours) (a .0) (omega (arith, s .neighbours)))
-    ∙ has-withIf (has who (a .0)) (p .0) (unionIf (eqb (a .0) (p .0)) who (neighboursOf n a)) (c .0)
-    ∙ ap₂ _||_ (has-unionIf (eqb (a .0) (p .0)) who (neighboursOf n a) (c .0)) (and-comm (has who (a .0)) (eqb (p .0) (c .0)) ∙ ap (λ (x : Bool). x && has who (a .0)) (eqb-sym (p .0) (c .0)))
+    ap (λ (w : ℕ). has w (c .0)) (getD-edit (λ q w. withIf (has who q) (p .0) (when (eqb q (p .0)) (puts who) w)) (n .neighbours) (a .0) (omega (arith, s .neighbours)))
+    ∙ has-withIf (has who (a .0)) (p .0) (when (eqb (a .0) (p .0)) (puts who) (neighboursOf n a)) (c .0)
+    ∙ ap₂ _||_ (has-puts (eqb (a .0) (p .0)) who (neighboursOf n a) (c .0)) (and-comm (has who (a .0)) (eqb (p .0) (c .0)) ∙ ap (λ (x : Bool). x && has who (a .0)) (eqb-sym (p .0) (c .0)))
     ∙ or-assoc (linked n a c) (eqb (a .0) (p .0) && has who (c .0)) (eqb (c .0) (p .0) && has who (a .0))
 
 -- The links that were there, but for those between p and `who`.
 pub linked-down : {n : Network} → Shaped n → (p : Peer) (who : ℕ) (a c : Peer) → a .0 < 32 → linked (linkDown n p who) a c ≡ linked n a c && not (between p who a c)
 unfolding linkDown
 linked-down {n} s p who a c ha =
-    ap (λ (w : ℕ). has w (c .0)) (getD-edit (λ q w. withoutIf (has who q) (p .0) (minusIf (eqb q (p .0)) who w)) (n .neighbours) (a .0) (omega (arith, s .neighbours)))
-    ∙ has-withoutIf (has who (a .0)) (p .0) (minusIf (eqb (a .0) (p .0)) who (neighboursOf n a)) (c .0)
-    ∙ ap₂ (λ (x y : Bool). x && not y) (has-minusIf (eqb (a .0) (p .0)) who (neighboursOf n a) (c .0)) (and-comm (has who (a .0)) (eqb (p .0) (c .0)) ∙ ap (λ (x : Bool). x && has who (a .0)) (eqb-sym (p .0) (c .0)))
+    ap (λ (w : ℕ). has w (c .0)) (getD-edit (λ q w. when (has who q) (strikes (only (p .0))) (when (eqb q (p .0)) (strikes who) w)) (n .neighbours) (a .0) (omega (arith, s .neighbours)))
+    ∙ has-withoutIf (has who (a .0)) (p .0) (when (eqb (a .0) (p .0)) (strikes who) (neighboursOf n a)) (c .0)
+    ∙ ap₂ (λ (x y : Bool). x && not y) (has-strikes (eqb (a .0) (p .0)) who (neighboursOf n a) (c .0)) (and-comm (has who (a .0)) (eqb (p .0) (c .0)) ∙ ap (λ (x : Bool). x && has who (a .0)) (eqb-sym (p .0) (c .0)))
     ∙ go (linked n a c) (eqb (a .0) (p .0) && has who (c .0)) (eqb (c .0) (p .0) && has who (a .0))
   where
     go : (l x y : Bool) → (l && not x) && not y ≡ l && not (x || y)
@@ -87,20 +86,14 @@ pub knows-up : {n : Network} → Shaped n → (p : Peer) (who : ℕ) (a : Peer) 
     → knows (linkUp n p who) a t c ≡ knows n a t c || (between p who a c && subscribed n c t)
 unfolding linkUp
 knows-up {n} s p who a t c hw ha ht =
-    ap (λ (w : ℕ). has w (c .0)) (edit-spot (λ x y w. unionIf (eqb x (p .0)) (theirs y) (withIf (has who x && has (subsOf n p) y) (p .0) w)) (n .known) a t (s .known) ha ht)
-    ∙ has-unionIf (eqb (a .0) (p .0)) (theirs (t .0)) (withIf (has who (a .0) && subscribed n p t) (p .0) (knownOf n a t)) (c .0)
-    ∙ ap₂ (λ (x y : Bool). x || (eqb (a .0) (p .0) && y)) (has-withIf (has who (a .0) && subscribed n p t) (p .0) (knownOf n a t) (c .0)) (in-theirs (decLt (c .0) 32))
+    ap (λ (w : ℕ). has w (c .0)) (edit-spot (λ x y w. when (eqb x (p .0)) (puts (theirs y)) (withIf (has who x && has (subsOf n p) y) (p .0) w)) (n .known) a t (s .known) ha ht)
+    ∙ has-puts (eqb (a .0) (p .0)) (theirs (t .0)) (withIf (has who (a .0) && subscribed n p t) (p .0) (knownOf n a t)) (c .0)
+    ∙ ap₂ (λ (x y : Bool). x || (eqb (a .0) (p .0) && y)) (has-withIf (has who (a .0) && subscribed n p t) (p .0) (knownOf n a t) (c .0)) (has-sifted 32 who (λ q. subscribed n (peer q) t) hw (c .0))
     ∙ either-side (knows n a t c) (eqb (a .0) (p .0)) (has who (c .0)) (has who (a .0)) (eqb (p .0) (c .0)) (subscribed n p t) (subscribed n c t) same
     ∙ ap (λ (x : Bool). knows n a t c || (((eqb (a .0) (p .0) && has who (c .0)) || (x && has who (a .0))) && subscribed n c t)) (eqb-sym (p .0) (c .0))
   where
     theirs : ℕ → ℕ
     theirs y = sift 32 who (λ q. subscribed n (peer q) (topic y))
-
-    in-theirs : Dec (c .0 < 32) → has (theirs (t .0)) (c .0) ≡ has who (c .0) && subscribed n c t
-    in-theirs (yes h) = has-sift 32 who (λ q. subscribed n (peer q) t) (c .0) h
-    in-theirs (no h) =
-        let o : 32 ≤ c .0 = omega arith in
-        has-out 32 (theirs (t .0)) (c .0) (sift-lt 32 who (λ q. subscribed n (peer q) t)) o ∙ ap (λ (x : Bool). x && subscribed n c t) (sym (has-out 32 who (c .0) hw o))
 
     same : subscribed n p t && eqb (p .0) (c .0) ≡ subscribed n c t && eqb (p .0) (c .0)
     same = sym (and-eqb (λ (x : ℕ). has (getD (n .subs) x 0) (t .0)) (p .0) (c .0))
@@ -110,8 +103,8 @@ pub knows-down : {n : Network} → Shaped n → (p : Peer) (who : ℕ) (a : Peer
     → knows (linkDown n p who) a t c ≡ knows n a t c && not (between p who a c)
 unfolding linkDown
 knows-down {n} s p who a t c ha ht =
-    ap (λ (w : ℕ). has w (c .0)) (edit-spot (λ x y w. minusIf (eqb x (p .0)) who (withoutIf (has who x) (p .0) w)) (n .known) a t (s .known) ha ht)
-    ∙ has-minusIf (eqb (a .0) (p .0)) who (withoutIf (has who (a .0)) (p .0) (knownOf n a t)) (c .0)
+    ap (λ (w : ℕ). has w (c .0)) (edit-spot (λ x y w. when (eqb x (p .0)) (strikes who) (when (has who x) (strikes (only (p .0))) w)) (n .known) a t (s .known) ha ht)
+    ∙ has-strikes (eqb (a .0) (p .0)) who (when (has who (a .0)) (strikes (only (p .0))) (knownOf n a t)) (c .0)
     ∙ ap (λ (x : Bool). x && not (eqb (a .0) (p .0) && has who (c .0))) (has-withoutIf (has who (a .0)) (p .0) (knownOf n a t) (c .0))
     ∙ go (knows n a t c) (eqb (a .0) (p .0) && has who (c .0)) (has who (a .0)) (eqb (p .0) (c .0))
     ∙ ap (λ (x : Bool). knows n a t c && not ((eqb (a .0) (p .0) && has who (c .0)) || (x && has who (a .0)))) (eqb-sym (p .0) (c .0))
@@ -214,16 +207,16 @@ pub linkUp-shaped : {n : Network} → Shaped n → (p : Peer) (who : ℕ) → p 
 unfolding linkUp
 linkUp-shaped {n} s p who hp hw =
     relink-shaped _ _ s (length-edit _ (n .neighbours) ∙ s .neighbours) (length-edit _ (n .known) ∙ s .known)
-    (edit-below _ (n .neighbours) (2 ^ 32) (omega arith) λ i h. withIf-lt 32 _ (p .0) _ hp (unionIf-lt 32 _ who _ hw (s .neighbours-fit i)))
-    (edit-below _ (n .known) (2 ^ 32) (omega arith) λ i h. unionIf-lt 32 _ _ _ (sift-lt 32 who _) (withIf-lt 32 _ (p .0) _ hp (s .known-fit i)))
+    (edit-below _ (n .neighbours) (2 ^ 32) (omega arith) λ i h. withIf-lt 32 _ (p .0) _ hp (puts-lt 32 _ who _ hw (s .neighbours-fit i)))
+    (edit-below _ (n .known) (2 ^ 32) (omega arith) λ i h. puts-lt 32 _ _ _ (sift-lt 32 who _) (withIf-lt 32 _ (p .0) _ hp (s .known-fit i)))
 
 -- So does forgetting.
 pub linkDown-shaped : {n : Network} → Shaped n → (p : Peer) (who : ℕ) → Shaped (linkDown n p who)
 unfolding linkDown
 linkDown-shaped {n} s p who =
     relink-shaped _ _ s (length-edit _ (n .neighbours) ∙ s .neighbours) (length-edit _ (n .known) ∙ s .known)
-    (edit-below _ (n .neighbours) (2 ^ 32) (omega arith) λ i h. withoutIf-lt 32 _ (p .0) _ (minusIf-lt 32 _ who _ (s .neighbours-fit i)))
-    (edit-below _ (n .known) (2 ^ 32) (omega arith) λ i h. minusIf-lt 32 _ who _ (withoutIf-lt 32 _ (p .0) _ (s .known-fit i)))
+    (edit-below _ (n .neighbours) (2 ^ 32) (omega arith) λ i h. strikes-lt 32 _ (only (p .0)) _ (strikes-lt 32 _ who _ (s .neighbours-fit i)))
+    (edit-below _ (n .known) (2 ^ 32) (omega arith) λ i h. strikes-lt 32 _ who _ (strikes-lt 32 _ (only (p .0)) _ (s .known-fit i)))
 
 -- Links of p, which is present, with others that are present.
 pub linkUp-sound : {n : Network} → Sound n → (p : Peer) (who : ℕ) → present n p ≡ true → p .0 < 32 → has who (p .0) ≡ false → minus who (n .present) ≡ 0 → who < 2 ^ 32

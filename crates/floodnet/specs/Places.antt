@@ -1,7 +1,7 @@
--- Small laws under TopicsLaws, LinksLaws and LeaveJoin: members of what a choice gives, one place of a list stored to, the word
+-- Small laws under TopicsLaws, LinksLaws and LeaveJoin: one place of a list stored to, the word
 -- of a peer and a topic after an edit of `known`, and what a sound network's links say. Assumes nothing.
-use mathlib.Core.Path.{_≡_, refl, sym, ap, _∙_}
-use mathlib.Core.Bool.{Bool, true, false, not, cond, _&&_, _||_, and-true, or-false}
+use mathlib.Core.Path.{_≡_, refl, ap, _∙_}
+use mathlib.Core.Bool.{Bool, true, false, not, cond, _&&_}
 use mathlib.Core.List.{List}
 use Prim.Native.Nat.{ℕ, _+_, _*_, _/_, _%_, _^_, _≤_, _<_}
 use native.Mathlib.Omega.{arith}
@@ -10,68 +10,15 @@ use borrow.Author.Tests.{eqb-true, eqb-false}
 use lib.Dec.{eqb}
 use lib.ListN.{length, getD, set, List·getD-eq-default}
 use lib.Seq.{getD-set-same, getD-set-other, set-out}
-use Rattle.sets.specs.Set.{has, only}
+use Rattle.sets.specs.Set.{has, when, empties}
 use Rattle.sets.specs.Bools.{bool-ext}
-use Rattle.sets.specs.Members.{has-union, has-minus, has-none, members}
-use Rattle.sets.specs.Bounds.{union-lt, minus-lt}
+use Rattle.sets.specs.Build.{has-empties}
 use Rattle.lists.specs.Edit.{edit, getD-edit}
 use Rattle.network.specs.declared.Peer.{Peer}
 use Rattle.network.specs.declared.Topic.{Topic}
 use Rattle.network.specs.declared.Network.{Network}
 use Rattle.network.specs.Network.{linked, spot}
 use Rattle.network.specs.Sound.{Sound}
-use Rattle.floodnet.specs.Topics.{withoutIf}
-use Rattle.floodnet.specs.Links.{unionIf, minusIf, keepIf}
-
--- ---- choices
-
--- The members of a set without i, where b is true.
-pub has-withoutIf : (b : Bool) (i w j : ℕ) → has (withoutIf b i w) j ≡ has w j && not (b && eqb i j)
-unfolding withoutIf
-has-withoutIf true i w j = simp members
-has-withoutIf false i w j = sym (and-true (has w j))
-
--- The members of a set with s, where b is true.
-pub has-unionIf : (b : Bool) (s w j : ℕ) → has (unionIf b s w) j ≡ has w j || (b && has s j)
-unfolding unionIf
-has-unionIf true s w j = has-union w s j
-has-unionIf false s w j = sym (or-false (has w j))
-
--- The members of a set without s, where b is true.
-pub has-minusIf : (b : Bool) (s w j : ℕ) → has (minusIf b s w) j ≡ has w j && not (b && has s j)
-unfolding minusIf
-has-minusIf true s w j = has-minus w s j
-has-minusIf false s w j = sym (and-true (has w j))
-
--- The members of a set that is kept where b is true.
-pub has-keepIf : (b : Bool) (w j : ℕ) → has (keepIf b w) j ≡ b && has w j
-unfolding keepIf
-has-keepIf true w j = refl
-has-keepIf false w j = has-none j
-
--- Each choice leaves a word of k bits one. Without i.
-pub withoutIf-lt : (k : ℕ) (b : Bool) (i w : ℕ) → w < 2 ^ k → withoutIf b i w < 2 ^ k
-unfolding withoutIf
-withoutIf-lt k true i w h = minus-lt k w (only i) h
-withoutIf-lt k false i w h = h
-
--- With s put in.
-pub unionIf-lt : (k : ℕ) (b : Bool) (s w : ℕ) → s < 2 ^ k → w < 2 ^ k → unionIf b s w < 2 ^ k
-unfolding unionIf
-unionIf-lt k true s w hs h = union-lt k w s h hs
-unionIf-lt k false s w hs h = h
-
--- With s taken out.
-pub minusIf-lt : (k : ℕ) (b : Bool) (s w : ℕ) → w < 2 ^ k → minusIf b s w < 2 ^ k
-unfolding minusIf
-minusIf-lt k true s w h = minus-lt k w s h
-minusIf-lt k false s w h = h
-
--- Kept or not.
-pub keepIf-lt : (k : ℕ) (b : Bool) (w : ℕ) → w < 2 ^ k → keepIf b w < 2 ^ k
-unfolding keepIf
-keepIf-lt k true w h = h
-keepIf-lt k false w h = omega arith
 
 -- ---- one place stored to (more: SoundBase.antt)
 
@@ -84,25 +31,25 @@ getD-set l p q v h = go (eqb q p) refl
     go false e = getD-set-other l p q v 0 (eqb-false q p e)
 
 -- What stands at q once 0 is stored at p.
-pub zeroed : (l : List ℕ) (p q : ℕ) → getD (set l p 0) q 0 ≡ keepIf (not (eqb q p)) (getD l q 0)
-unfolding keepIf
+pub zeroed : (l : List ℕ) (p q : ℕ) → getD (set l p 0) q 0 ≡ when (eqb q p) empties (getD l q 0)
+unfolding when empties
 zeroed l p q = first (decLt p (length l))
   where
-    at : (b : Bool) → cond b 0 (getD l q 0) ≡ keepIf (not b) (getD l q 0)
+    at : (b : Bool) → cond b 0 (getD l q 0) ≡ when b empties (getD l q 0)
     at true = refl
     at false = refl
 
-    out : length l ≤ p → (b : Bool) → eqb q p ≡ b → getD l q 0 ≡ keepIf (not b) (getD l q 0)
+    out : length l ≤ p → (b : Bool) → eqb q p ≡ b → getD l q 0 ≡ when b empties (getD l q 0)
     out o true e = ap (λ (x : ℕ). getD l x 0) (eqb-true q p e) ∙ List·getD-eq-default l 0 o
     out o false e = refl
 
-    first : Dec (p < length l) → getD (set l p 0) q 0 ≡ keepIf (not (eqb q p)) (getD l q 0)
+    first : Dec (p < length l) → getD (set l p 0) q 0 ≡ when (eqb q p) empties (getD l q 0)
     first (yes h) = getD-set l p q 0 h ∙ at (eqb q p)
     first (no h) = ap (λ (x : List ℕ). getD x q 0) (set-out l p 0 (omega arith)) ∙ out (omega arith) (eqb q p) refl
 
 -- A member of what stands there: none at p.
 pub has-zeroed : (l : List ℕ) (p q i : ℕ) → has (getD (set l p 0) q 0) i ≡ not (eqb q p) && has (getD l q 0) i
-has-zeroed l p q i = ap (λ (w : ℕ). has w i) (zeroed l p q) ∙ has-keepIf (not (eqb q p)) (getD l q 0) i
+has-zeroed l p q i = ap (λ (w : ℕ). has w i) (zeroed l p q) ∙ has-empties (eqb q p) (getD l q 0) i
 
 -- ---- the word of a peer and a topic
 

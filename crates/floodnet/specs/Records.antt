@@ -9,10 +9,11 @@ use borrow.Author.Tests.{eqb-true, eqb-false}
 use lib.Dec.{eqb}
 use lib.ListN.{getD, set, length-set}
 use lib.Seq.{getD-set-other, set-getD}
-use Rattle.sets.specs.Set.{has, only}
+use Rattle.sets.specs.Set.{has, only, when, empties}
 use Rattle.sets.specs.Bools.{clash, not-false, and-both, and-yes, and-no, or-left, or-no}
 use Rattle.sets.specs.Members.{has-union, has-minus, has-only}
 use Rattle.sets.specs.Bounds.{union-lt, minus-lt, only-lt}
+use Rattle.sets.specs.Build.{has-empties, empties-lt}
 use Rattle.sets.specs.Sizes.{without-stranger}
 use Rattle.lists.specs.Edit.{length-edit, edit-below, edit-none}
 use Rattle.network.specs.declared.Peer.{Peer}
@@ -21,9 +22,9 @@ use Rattle.network.specs.declared.Message.{Message}
 use Rattle.network.specs.declared.Network.{Network}
 use Rattle.network.specs.Network.{withAll, topic, neighboursOf, knownOf, present, publishes, subscribed, linked, pending, saw, knows, Shaped}
 use Rattle.network.specs.Sound.{Sound, Empty}
-use Rattle.floodnet.specs.Links.{keepIf, cleared, placed}
+use Rattle.floodnet.specs.Links.{cleared, placed}
 use Rattle.floodnet.specs.SoundBase.{eqb-sym, has-set, set-below}
-use Rattle.floodnet.specs.Places.{has-keepIf, keepIf-lt, zeroed, has-zeroed, edit-spot}
+use Rattle.floodnet.specs.Places.{zeroed, has-zeroed, edit-spot}
 
 -- ---- "record becomes zero"
 
@@ -58,13 +59,13 @@ unfolding cleared
 saw-cleared n p q m = has-zeroed (n .seen) (p .0) (q .0) (m .0)
 
 -- p has no known subscribers: word by word.
-pub known-cleared : {n : Network} → Shaped n → (p q : Peer) (t : Topic) → q .0 < 32 → t .0 < 32 → knownOf (cleared n p) q t ≡ keepIf (not (eqb (q .0) (p .0))) (knownOf n q t)
+pub known-cleared : {n : Network} → Shaped n → (p q : Peer) (t : Topic) → q .0 < 32 → t .0 < 32 → knownOf (cleared n p) q t ≡ when (eqb (q .0) (p .0)) empties (knownOf n q t)
 unfolding cleared
-known-cleared {n} s p q t hq ht = edit-spot (λ x y w. keepIf (not (eqb x (p .0))) w) (n .known) q t (s .known) hq ht
+known-cleared {n} s p q t hq ht = edit-spot (λ x y w. when (eqb x (p .0)) empties w) (n .known) q t (s .known) hq ht
 
 -- p knows nobody.
 pub knows-cleared : {n : Network} → Shaped n → (p q : Peer) (t : Topic) (c : Peer) → q .0 < 32 → t .0 < 32 → knows (cleared n p) q t c ≡ not (eqb (q .0) (p .0)) && knows n q t c
-knows-cleared {n} s p q t c hq ht = ap (λ (w : ℕ). has w (c .0)) (known-cleared s p q t hq ht) ∙ has-keepIf (not (eqb (q .0) (p .0))) (knownOf n q t) (c .0)
+knows-cleared {n} s p q t c hq ht = ap (λ (w : ℕ). has w (c .0)) (known-cleared s p q t hq ht) ∙ has-empties (eqb (q .0) (p .0)) (knownOf n q t) (c .0)
 
 -- The shape stays.
 pub cleared-shaped : {n : Network} → Shaped n → (p : Peer) → Shaped (cleared n p)
@@ -83,12 +84,12 @@ cleared-shaped {n} s p =
       neighbours-fit = set-below (n .neighbours) (p .0) 0 (2 ^ 32) (omega arith) (s .neighbours-fit);
       pending-fit = set-below (n .pending) (p .0) 0 (2 ^ 64) (omega arith) (s .pending-fit);
       seen-fit = set-below (n .seen) (p .0) 0 (2 ^ 64) (omega arith) (s .seen-fit);
-      known-fit = edit-below _ (n .known) (2 ^ 32) (omega arith) λ i h. keepIf-lt 32 _ _ (s .known-fit i);
+      known-fit = edit-below _ (n .known) (2 ^ 32) (omega arith) λ i h. empties-lt 32 _ _ (s .known-fit i);
     }
 
 -- The record is empty where it is p's, and where it was before.
 cleared-empty : {n : Network} → Shaped n → (p q : Peer) → q .0 < 32 → (eqb (q .0) (p .0) ≡ false → Empty n q) → Empty (cleared n p) q
-unfolding cleared keepIf
+unfolding cleared when empties
 cleared-empty {n} s p q hq f =
     record {
       pubs = zeroed (n .pubs) (p .0) (q .0) ∙ gone (λ e. e .pubs);
@@ -99,10 +100,10 @@ cleared-empty {n} s p q hq f =
       known = λ t ht. known-cleared s p q t hq ht ∙ gone (λ e. e .known t ht);
     }
   where
-    gone : {w : ℕ} → (Empty n q → w ≡ 0) → keepIf (not (eqb (q .0) (p .0))) w ≡ 0
+    gone : {w : ℕ} → (Empty n q → w ≡ 0) → when (eqb (q .0) (p .0)) empties w ≡ 0
     gone {w} g = go (eqb (q .0) (p .0)) refl
       where
-        go : (b : Bool) → eqb (q .0) (p .0) ≡ b → keepIf (not b) w ≡ 0
+        go : (b : Bool) → eqb (q .0) (p .0) ≡ b → when b empties w ≡ 0
         go true e = refl
         go false e = g (f e)
 
@@ -140,10 +141,10 @@ cleared-sound {n} s p free =
 
 -- The record of one who is absent from a sound network is zero already.
 pub cleared-absent : {n : Network} → Sound n → (p : Peer) → p .0 < 32 → present n p ≡ false → cleared n p ≡ n
-unfolding cleared keepIf
+unfolding cleared when empties
 cleared-absent {n} s p hp a =
     λ j. withAll n (without-stranger (n .present) (p .0) a j) (stays (n .pubs) (e .pubs) j) (stays (n .subs) (e .subs) j) (stays (n .neighbours) (e .neighbours) j)
-    (stays (n .pending) (e .pending) j) (stays (n .seen) (e .seen) j) (sym (edit-none (λ i w. keepIf (not (eqb (i / 32) (p .0))) w) (n .known) λ i. at i (eqb (i / 32) (p .0)) refl) j)
+    (stays (n .pending) (e .pending) j) (stays (n .seen) (e .seen) j) (sym (edit-none (λ i w. when (eqb (i / 32) (p .0)) empties w) (n .known) λ i. at i (eqb (i / 32) (p .0)) refl) j)
   where
     e : Empty n p
     e = s .empty p hp a
@@ -151,7 +152,7 @@ cleared-absent {n} s p hp a =
     stays : (l : List ℕ) → getD l (p .0) 0 ≡ 0 → set l (p .0) 0 ≡ l
     stays l z = ap (set l (p .0)) (sym z) ∙ set-getD l (p .0) 0
 
-    at : (i : ℕ) (b : Bool) → eqb (i / 32) (p .0) ≡ b → keepIf (not b) (getD (n .known) i 0) ≡ getD (n .known) i 0
+    at : (i : ℕ) (b : Bool) → eqb (i / 32) (p .0) ≡ b → when b empties (getD (n .known) i 0) ≡ getD (n .known) i 0
     at i true y =
         let row : p .0 * 32 + i % 32 ≡ i = omega (arith, eqb-true (i / 32) (p .0) y) in
         sym (ap (λ (x : ℕ). getD (n .known) x 0) (sym row) ∙ e .known (topic (i % 32)) (omega arith))

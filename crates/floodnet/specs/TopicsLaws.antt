@@ -10,11 +10,11 @@ use borrow.Author.Tests.{eqb-true}
 use lib.Dec.{eqb}
 use lib.ListN.{length, getD, set, length-set}
 use lib.Seq.{getD-set-other, set-getD}
-use Rattle.sets.specs.Set.{has, union, minus, withIf}
+use Rattle.sets.specs.Set.{has, union, minus, only, when, puts, strikes, withIf}
 use Rattle.sets.specs.Bools.{either, clash, and-both, and-yes, or-right, and-eqb}
 use Rattle.sets.specs.Members.{has-union, has-minus, has-none}
 use Rattle.sets.specs.Bounds.{union-lt, minus-lt}
-use Rattle.sets.specs.Build.{has-withIf, withIf-lt}
+use Rattle.sets.specs.Build.{has-withIf, has-withoutIf, withIf-lt, strikes-lt}
 use Rattle.sets.specs.Lowest.{none-empty}
 use Rattle.sets.specs.Sizes.{with-member, without-stranger}
 use Rattle.lists.specs.Edit.{length-edit, edit-below, edit-none}
@@ -24,9 +24,9 @@ use Rattle.network.specs.declared.Network.{Network}
 use Rattle.network.specs.Network.{withSubs, withKnown, peer, topic, subsOf, neighboursOf, knownOf, present, linked, subscribed, knows, Shaped}
 use Rattle.network.specs.Sound.{Sound, Empty}
 use Rattle.network.specs.SoundLaws.{linked-other}
-use Rattle.floodnet.specs.Topics.{withoutIf, noted, struck, subscribedTo, unsubscribedFrom}
+use Rattle.floodnet.specs.Topics.{noted, struck, subscribedTo, unsubscribedFrom}
 use Rattle.floodnet.specs.SoundBase.{eqb-sym, set-below}
-use Rattle.floodnet.specs.Places.{has-withoutIf, withoutIf-lt, getD-set, spot-of, edit-spot, linked-turn}
+use Rattle.floodnet.specs.Places.{getD-set, spot-of, edit-spot, linked-turn}
 
 -- ---- the observations, one law each
 
@@ -85,7 +85,7 @@ pub knows-less : {n : Network} → Shaped n → (p : Peer) (topics : ℕ) (q : P
     → knows (unsubscribedFrom n p topics) q t c ≡ knows n q t c && not ((linked n p q && has topics (t .0)) && eqb (p .0) (c .0))
 unfolding unsubscribedFrom struck
 knows-less {n} s p topics q t c hq ht =
-    ap (λ (w : ℕ). has w (c .0)) (edit-spot (λ x y w. withoutIf (has (neighboursOf n p) x && has topics y) (p .0) w) (n .known) q t (s .known) hq ht)
+    ap (λ (w : ℕ). has w (c .0)) (edit-spot (λ x y w. when (has (neighboursOf n p) x && has topics y) (strikes (only (p .0))) w) (n .known) q t (s .known) hq ht)
     ∙ has-withoutIf (linked n p q && has topics (t .0)) (p .0) (knownOf n q t) (c .0)
 
 -- ---- other topics of p, and other known subscribers
@@ -161,7 +161,7 @@ pub unsubscribed-shaped : {n : Network} → Shaped n → (p : Peer) (topics : �
 unfolding unsubscribedFrom struck
 unsubscribed-shaped {n} s p topics =
     retopic-shaped p _ _ s (minus-lt 32 (subsOf n p) topics (s .subs-fit (p .0))) (length-edit _ (n .known) ∙ s .known)
-    (edit-below _ (n .known) (2 ^ 32) (omega arith) (λ i h. withoutIf-lt 32 _ (p .0) (getD (n .known) i 0) (s .known-fit i)))
+    (edit-below _ (n .known) (2 ^ 32) (omega arith) (λ i h. strikes-lt 32 _ (only (p .0)) (getD (n .known) i 0) (s .known-fit i)))
 
 -- q lists p exactly where p lists q; and where c is p, it lists c.
 turned : {n : Network} → Sound n → (p q c : Peer) → linked n p q && eqb (p .0) (c .0) ≡ linked n q c && eqb (p .0) (c .0)
@@ -213,7 +213,7 @@ at-place n i = ap (λ (x : ℕ). getD (n .known) x 0) (spot-of i)
 
 -- Topics to which p is subscribed already leave the network as it was.
 pub subscribed-same : {n : Network} → Sound n → (p : Peer) (topics : ℕ) → union (subsOf n p) topics ≡ subsOf n p → subscribedTo n p topics ≡ n
-unfolding subscribedTo noted withIf
+unfolding subscribedTo noted when puts
 subscribed-same {n} s p topics e =
     ap₂ (λ (x y : List ℕ). withKnown (withSubs n x) y)
     (ap (set (n .subs) (p .0)) e ∙ set-getD (n .subs) (p .0) 0)
@@ -233,7 +233,7 @@ subscribed-same {n} s p topics e =
 
 -- Topics to none of which p is subscribed leave the network as it was.
 pub unsubscribed-same : {n : Network} → Sound n → (p : Peer) (topics : ℕ) → minus (subsOf n p) topics ≡ subsOf n p → unsubscribedFrom n p topics ≡ n
-unfolding unsubscribedFrom struck withoutIf
+unfolding unsubscribedFrom struck when strikes
 unsubscribed-same {n} s p topics e =
     ap₂ (λ (x y : List ℕ). withKnown (withSubs n x) y)
     (ap (set (n .subs) (p .0)) e ∙ set-getD (n .subs) (p .0) 0)
@@ -242,7 +242,7 @@ unsubscribed-same {n} s p topics e =
     old : (t : Topic) → has topics (t .0) ≡ true → subscribed n p t ≡ false
     old t h = ap (λ (w : ℕ). has w (t .0)) (sym e) ∙ has-minus (subsOf n p) topics (t .0) ∙ rw h (and-false (subscribed n p t))
 
-    go : (i : ℕ) → let b = linked n p (peer (i / 32)) && has topics (i % 32) in (b ≡ true) ⊎ (b ≡ false) → withoutIf b (p .0) (getD (n .known) i 0) ≡ getD (n .known) i 0
+    go : (i : ℕ) → let b = linked n p (peer (i / 32)) && has topics (i % 32) in (b ≡ true) ⊎ (b ≡ false) → when b (strikes (only (p .0))) (getD (n .known) i 0) ≡ getD (n .known) i 0
     go i (inl y) =
         let both = and-yes (linked n p (peer (i / 32))) (has topics (i % 32)) y in
         let q : Peer = peer (i / 32) in

@@ -2,9 +2,8 @@
 // becomes is one `edit` of what it was; the loops' turns are laws of specs/CodeWhen.antt and specs/CodeArrays.antt.
 ghost use mathlib.Core.Path.{_≡_};
 ghost use Prim.Native.Nat.{_<_};
-ghost use Rattle.sets.specs.Set.{has, sift, withIf};
+ghost use Rattle.sets.specs.Set.{has, only, when, strikes, withIf, sift};
 ghost use Rattle.lists.specs.Edit.{edit};
-ghost use Rattle.floodnet.specs.Topics.{withoutIf};
 ghost use Rattle.floodnet.specs.CodeArrays.{holding};
 use network::Message;
 use network::Peer;
@@ -59,7 +58,7 @@ pub(crate) fn mark(neighbours: &mut [u32; 32], who: u32, p: Peer)
 // None of `who` lists p.
 pub(crate) fn unmark(neighbours: &mut [u32; 32], who: u32, p: Peer)
     requires { ⌜ p .0 < 32 ⌝ }
-    ensures { λ z. ⌜ now (neighbours .exit) ≡ edit (λ q w. withoutIf (has who q) (p .0) w) (now (neighbours .entry)) ⌝ }
+    ensures { λ z. ⌜ now (neighbours .exit) ≡ edit (λ q w. when (has who q) (strikes (only (p .0))) w) (now (neighbours .entry)) ⌝ }
 {
     let i = p.0 as u32;
     let mut left = who;

@@ -2,13 +2,11 @@
 // The first four change one row, the others the rows of the members of a set. The loops' turns are laws of
 // specs/CodeWhen.antt, specs/CodeArrays.antt and specs/CodeRows.antt.
 ghost use mathlib.Core.Path.{_≡_};
-ghost use mathlib.Core.Bool.{not};
 ghost use Prim.Native.Nat.{_/_, _<_};
 ghost use lib.Dec.{eqb};
-ghost use Rattle.sets.specs.Set.{has, only};
+ghost use Rattle.sets.specs.Set.{has, only, when, strikes, empties};
 ghost use Rattle.lists.specs.Edit.{edit};
-ghost use Rattle.floodnet.specs.Topics.{withoutIf, noted, struck};
-ghost use Rattle.floodnet.specs.Links.{minusIf, keepIf};
+ghost use Rattle.floodnet.specs.Topics.{noted, struck};
 ghost use Rattle.floodnet.specs.CodeWalks.{learnt};
 use network::Peer;
 use network::Topic;
@@ -44,7 +42,7 @@ pub(crate) fn row_strike(known: &mut [u32; 1024], row: Peer, topics: u32, who: P
 // `row` knows none of s for any topic.
 pub(crate) fn row_minus(known: &mut [u32; 1024], row: Peer, s: u32)
     requires { ⌜ row .0 < 32 ⌝ }
-    ensures { λ z. ⌜ now (known .exit) ≡ edit (λ i w. minusIf (eqb (i / 32) (row .0)) s w) (now (known .entry)) ⌝ }
+    ensures { λ z. ⌜ now (known .exit) ≡ edit (λ i w. when (eqb (i / 32) (row .0)) (strikes s) w) (now (known .entry)) ⌝ }
 {
     for t in 0..32 {
         let k = network::spot(row, Topic(t));
@@ -55,7 +53,7 @@ pub(crate) fn row_minus(known: &mut [u32; 1024], row: Peer, s: u32)
 // `row` knows nobody.
 pub(crate) fn row_clear(known: &mut [u32; 1024], row: Peer)
     requires { ⌜ row .0 < 32 ⌝ }
-    ensures { λ z. ⌜ now (known .exit) ≡ edit (λ i w. keepIf (not (eqb (i / 32) (row .0))) w) (now (known .entry)) ⌝ }
+    ensures { λ z. ⌜ now (known .exit) ≡ edit (λ i w. when (eqb (i / 32) (row .0)) empties w) (now (known .entry)) ⌝ }
 {
     for t in 0..32 {
         known[network::spot(row, Topic(t))] = 0;
@@ -91,7 +89,7 @@ pub(crate) fn strike_all(known: &mut [u32; 1024], who: u32, topics: u32, p: Peer
 // None of `who` knows p for any topic.
 pub(crate) fn drop_all(known: &mut [u32; 1024], who: u32, p: Peer)
     requires { ⌜ p .0 < 32 ⌝ }
-    ensures { λ z. ⌜ now (known .exit) ≡ edit (λ i w. withoutIf (has who (i / 32)) (p .0) w) (now (known .entry)) ⌝ }
+    ensures { λ z. ⌜ now (known .exit) ≡ edit (λ i w. when (has who (i / 32)) (strikes (only (p .0))) w) (now (known .entry)) ⌝ }
 {
     let own = sets::with32(0, p.0 as u32);
     let mut left = who;

@@ -7,7 +7,7 @@ use Prim.Native.Nat.{ℕ, _+_, _^_, _≤_, _<_}
 use native.Mathlib.Omega.{arith}
 use native.Mathlib.Decide.{decLt}
 use lib.ListN.{length, getD, set, replicate, length-replicate, getD-replicate, List·getD-eq-default}
-use Rattle.sets.specs.Set.{has, union, minus, only, withIf, setOf, Subset, lowest}
+use Rattle.sets.specs.Set.{has, union, minus, only, when, puts, withIf, setOf, Subset, lowest}
 use Rattle.sets.specs.Members.{has-minus, has-with, has-with-other}
 use Rattle.sets.specs.Bounds.{minus-lt}
 use Rattle.sets.specs.Lowest.{lowest-has}
@@ -23,7 +23,7 @@ joining s left q t w = withIf (has (minus s left) t) q w
 
 -- a topic that is still left has not been joined
 getD-left : (l : List ℕ) (s left q t : ℕ) → has left t ≡ true → getD (edit (joining s left q) l) t 0 ≡ getD l t 0
-unfolding withIf
+unfolding when puts
 getD-left l s left q t h = go (decLt t (length l))
   where
     stays : (w : ℕ) → joining s left q t w ≡ w
@@ -37,7 +37,7 @@ getD-left l s left q t h = go (decLt t (length l))
 
 -- before the first topic
 joining-none : (l : List ℕ) (s q : ℕ) → l ≡ edit (joining s s q) l
-unfolding withIf
+unfolding when puts
 joining-none l s q = edit-none (joining s s q) l λ i. ap (λ (b : Bool). withIf b q (getD l i 0)) (nothing i)
   where
     nothing : (i : ℕ) → has (minus s s) i ≡ false
@@ -50,7 +50,7 @@ joining-none l s q = edit-none (joining s s q) l λ i. ap (λ (b : Bool). withIf
 -- one topic more
 joining-more : (l : List ℕ) (s left q t : ℕ) → Subset left s → has left t ≡ true
     → set (edit (joining s left q) l) t (union (getD (edit (joining s left q) l) t 0) (only q)) ≡ edit (joining s (minus left (only t)) q) l
-unfolding withIf
+unfolding when puts
 joining-more l s left q t w h = edit-more (joining s left q) (joining s (minus left (only t)) q) l t _ same here
   where
     after : (i : ℕ) → has (minus s (minus left (only t))) i ≡ has (union (minus s left) (only t)) i

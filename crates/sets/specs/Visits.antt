@@ -6,7 +6,7 @@ use Prim.Native.Nat.{ℕ, _^_, _<_}
 use borrow.Author.Tests.{eqb-true, eqb-false}
 use lib.Dec.{eqb}
 use lib.Pow.{pow-pos}
-use Rattle.sets.specs.Set.{has, union, minus, only, withIf, setOf, sift, Subset, lowest}
+use Rattle.sets.specs.Set.{has, union, minus, only, when, puts, withIf, setOf, sift, Subset, lowest}
 use Rattle.sets.specs.Bools.{clash, or-right, or-yes, eqb-same, ne-eqb}
 use Rattle.sets.specs.Members.{has-union, has-none, has-only, ext, has-minus, members}
 use Rattle.sets.specs.Bounds.{minus-lt}
@@ -110,13 +110,13 @@ visit-any k s left r p v h = record {
 -- It passes, and is put in.
 pub visit-yes : {k s left left′ r r′ q : ℕ} {p : ℕ → Bool} → Visit k s left r p → 0 < left → q ≡ lowest k left → left′ ≡ minus left (only (lowest k left))
     → p q ≡ true → r′ ≡ union r (only q) → Visit k s left′ r′ p
-unfolding withIf
+unfolding when puts
 visit-yes v h eq el y er = rw (el, er, sym eq) (rw (sym eq, y) at (visit-any _ _ _ _ _ v h))
 
 -- It does not.
 pub visit-no : {k s left left′ r q : ℕ} {p : ℕ → Bool} → Visit k s left r p → 0 < left → q ≡ lowest k left → left′ ≡ minus left (only (lowest k left))
     → p q ≡ false → Visit k s left′ r p
-unfolding withIf
+unfolding when puts
 visit-no v h eq el y = rw (el, sym eq) (rw (sym eq, y) at (visit-any _ _ _ _ _ v h))
 
 -- After the loop.

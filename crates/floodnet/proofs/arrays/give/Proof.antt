@@ -1,16 +1,15 @@
 -- `floodnet::arrays::give` meets its contract. Assumes nothing.
 use borrow.Author.Needs.{needs}
-use mathlib.Core.Path.{_∙_}
-use Rattle.sets.specs.Set.{has}
+use Rattle.sets.specs.Set.{has, only, puts}
 use Rattle.sets.specs.Members.{has-none}
 use Rattle.floodnet.specs.CodeVisit.{along-done}
-use Rattle.floodnet.specs.CodeWhen.{puts, Picking, picking-none, picks-with}
+use Rattle.floodnet.specs.CodeWhen.{Picking, picking-none}
 use Rattle.floodnet.specs.CodeArrays.{marking}
 use Rattle.floodnet.proofs.arrays.give.Statement.{statement}
 use Rattle.floodnet.proofs.arrays.give.Tie as tie
 
 abbrev Inv-loop : tie.InvT-loop
-Inv-loop pending₀ r i left₀ pending left = Picking r left has (puts i) pending₀ pending
+Inv-loop pending₀ r i left₀ pending left = Picking r left has (puts (only i)) pending₀ pending
 
 abbrev μ-loop : tie.MeasureT-loop
 μ-loop pending₀ r i left₀ pending left = left
@@ -49,12 +48,13 @@ loop-less : tie.Need-loop-less Inv-loop μ-loop
 loop-less c = search needs
 
 loop-again : tie.Need-loop-again Inv-loop μ-loop
+unfolding puts
 loop-again c =
     marking _ (c .before .before .before .before .before .loop .inv) (search needs) (c .before .before .before .lowest32 .ensures .0) (c .rest32 .ensures .0)
     (c .before .with64 .ensures)
 
 returns : tie.Need-returns Inv-loop μ-loop
-returns c = along-done (c .before .loop .inv) (c .loop-test .left) ∙ picks-with _ _ _
+returns c = along-done (c .before .loop .inv) (c .loop-test .left)
 
 pub give-spec : {M : Type 1} → statement M
 give-spec =

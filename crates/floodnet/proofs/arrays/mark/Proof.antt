@@ -1,16 +1,15 @@
 -- `floodnet::arrays::mark` meets its contract. Assumes nothing.
 use borrow.Author.Needs.{needs}
-use mathlib.Core.Path.{_∙_}
-use Rattle.sets.specs.Set.{has}
+use Rattle.sets.specs.Set.{has, only, puts}
 use Rattle.sets.specs.Members.{has-none}
 use Rattle.floodnet.specs.CodeVisit.{along-done}
-use Rattle.floodnet.specs.CodeWhen.{puts, Picking, picking-none, picks-with}
+use Rattle.floodnet.specs.CodeWhen.{Picking, picking-none}
 use Rattle.floodnet.specs.CodeArrays.{marking}
 use Rattle.floodnet.proofs.arrays.mark.Statement.{statement}
 use Rattle.floodnet.proofs.arrays.mark.Tie as tie
 
 abbrev Inv-loop : tie.InvT-loop
-Inv-loop neighbours₀ who i left₀ neighbours left = Picking who left has (puts i) neighbours₀ neighbours
+Inv-loop neighbours₀ who i left₀ neighbours left = Picking who left has (puts (only i)) neighbours₀ neighbours
 
 abbrev μ-loop : tie.MeasureT-loop
 μ-loop neighbours₀ who i left₀ neighbours left = left
@@ -49,12 +48,13 @@ loop-less : tie.Need-loop-less Inv-loop μ-loop
 loop-less c = search needs
 
 loop-again : tie.Need-loop-again Inv-loop μ-loop
+unfolding puts
 loop-again c =
     marking _ (c .before .before .before .before .before .loop .inv) (search needs) (c .before .before .before .lowest32 .ensures .0) (c .rest32 .ensures .0)
     (c .before .with32 .ensures)
 
 returns : tie.Need-returns Inv-loop μ-loop
-returns c = along-done (c .before .loop .inv) (c .loop-test .left) ∙ picks-with _ _ _
+returns c = along-done (c .before .loop .inv) (c .loop-test .left)
 
 pub mark-spec : {M : Type 1} → statement M
 mark-spec =

@@ -1,11 +1,10 @@
 -- `floodnet::arrays::unmark` meets its contract. Assumes nothing.
 use borrow.Author.Needs.{needs}
-use mathlib.Core.Path.{_∙_}
-use Rattle.sets.specs.Set.{has, only}
+use Rattle.sets.specs.Set.{has, only, strikes}
 use Rattle.sets.specs.Members.{has-none}
 use Rattle.floodnet.specs.CodeVisit.{along-done}
-use Rattle.floodnet.specs.CodeWhen.{strikes, Picking, picking-none, picks-without}
-use Rattle.floodnet.specs.CodeArrays.{unmarking}
+use Rattle.floodnet.specs.CodeWhen.{Picking, picking-none}
+use Rattle.floodnet.specs.CodeArrays.{marking}
 use Rattle.floodnet.proofs.arrays.unmark.Statement.{statement}
 use Rattle.floodnet.proofs.arrays.unmark.Tie as tie
 
@@ -49,12 +48,13 @@ loop-less : tie.Need-loop-less Inv-loop μ-loop
 loop-less c = search needs
 
 loop-again : tie.Need-loop-again Inv-loop μ-loop
+unfolding strikes
 loop-again c =
-    unmarking _ (c .before .before .before .before .before .loop .inv) (search needs) (c .before .before .before .lowest32 .ensures .0) (c .rest32 .ensures .0)
+    marking _ (c .before .before .before .before .before .loop .inv) (search needs) (c .before .before .before .lowest32 .ensures .0) (c .rest32 .ensures .0)
     (c .before .without32 .ensures)
 
 returns : tie.Need-returns Inv-loop μ-loop
-returns c = along-done (c .before .loop .inv) (c .loop-test .left) ∙ picks-without _ _ _
+returns c = along-done (c .before .loop .inv) (c .loop-test .left)
 
 pub unmark-spec : {M : Type 1} → statement M
 unmark-spec =

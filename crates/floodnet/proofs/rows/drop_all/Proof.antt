@@ -1,8 +1,9 @@
 -- `floodnet::rows::drop_all` meets its contract. Assumes nothing.
 use borrow.Author.Needs.{needs}
 use mathlib.Core.Path.{_∙_}
+use Rattle.sets.specs.Set.{strikes}
 use Rattle.floodnet.specs.CodeVisit.{along-done}
-use Rattle.floodnet.specs.CodeWhen.{strikes, Picking, picking-none}
+use Rattle.floodnet.specs.CodeWhen.{Picking, picking-none}
 use Rattle.floodnet.specs.CodeWalks.{rows, rows-none, rows-dropped, dropping-row}
 use Rattle.floodnet.proofs.rows.drop_all.Statement.{statement}
 use Rattle.floodnet.proofs.rows.drop_all.Tie as tie

@@ -1,15 +1,16 @@
 -- `floodnet::rows::note_all` meets its contract. Assumes nothing.
 use borrow.Author.Needs.{needs}
-use mathlib.Core.Path.{_∙_}
+use mathlib.Core.Path.{sym, _∙_}
+use Rattle.sets.specs.Set.{only, puts}
 use Rattle.floodnet.specs.CodeVisit.{along-done}
-use Rattle.floodnet.specs.CodeWhen.{puts, Picking, picking-none}
+use Rattle.floodnet.specs.CodeWhen.{puts-twice, Picking, picking-none}
 use Rattle.floodnet.specs.CodeArrays.{inside, inside-no-peer, inside-noted}
 use Rattle.floodnet.specs.CodeWalks.{noting-row}
 use Rattle.floodnet.proofs.rows.note_all.Statement.{statement}
 use Rattle.floodnet.proofs.rows.note_all.Tie as tie
 
 abbrev Inv-loop : tie.InvT-loop
-Inv-loop known₀ who topics p left₀ known left = Picking who left (λ t. inside t topics) (puts (p .0)) known₀ known
+Inv-loop known₀ who topics p left₀ known left = Picking who left (λ t. inside t topics) (puts (only (p .0))) known₀ known
 
 abbrev μ-loop : tie.MeasureT-loop
 μ-loop known₀ who topics p left₀ known left = left
@@ -34,7 +35,7 @@ loop-less c = search needs
 
 loop-again : tie.Need-loop-again Inv-loop μ-loop
 loop-again c =
-    noting-row _ _ (c .before .before .before .before .before .loop .inv) (search needs) (c .before .before .before .lowest32 .ensures .0) (c .rest32 .ensures .0) (c .before .row-note .ensures)
+    noting-row _ _ (puts-twice _) (c .before .before .before .before .before .loop .inv) (search needs) (c .before .before .before .lowest32 .ensures .0) (c .rest32 .ensures .0) (c .before .row-note .ensures ∙ sym (inside-noted _ _ _ _))
 
 returns : tie.Need-returns Inv-loop μ-loop
 returns c = along-done (c .before .loop .inv) (c .loop-test .left) ∙ inside-noted _ _ _ _

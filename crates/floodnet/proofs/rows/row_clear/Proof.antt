@@ -1,16 +1,17 @@
 -- `floodnet::rows::row_clear` meets its contract. Assumes nothing.
 use borrow.Author.Needs.{needs}
-use mathlib.Core.Path.{_≡_}
+use mathlib.Core.Path.{_≡_, refl}
 use Prim.Native.Nat.{_≤_, _-_}
 use native.Mathlib.Omega.{arith}
+use Rattle.sets.specs.Set.{empties}
 use Rattle.lists.specs.Edit.{edit}
-use Rattle.floodnet.specs.CodeWhen.{blanks, picks}
-use Rattle.floodnet.specs.CodeRows.{front, row-none, row-clear-more, row-clear-all}
+use Rattle.floodnet.specs.CodeWhen.{picks}
+use Rattle.floodnet.specs.CodeRows.{front, row-none, row-more, row-all}
 use Rattle.floodnet.proofs.rows.row_clear.Statement.{statement}
 use Rattle.floodnet.proofs.rows.row_clear.Tie as tie
 
 abbrev Inv-loop : tie.InvT-loop
-Inv-loop known₀ row t₀ known t = (t ≤ 32) × (known ≡ edit (picks (front (row .0) t) blanks) known₀)
+Inv-loop known₀ row t₀ known t = (t ≤ 32) × (known ≡ edit (picks (front (row .0) t) empties) known₀)
 
 abbrev μ-loop : tie.MeasureT-loop
 μ-loop known₀ row t₀ known t = 32 - t
@@ -34,10 +35,11 @@ loop-less : tie.Need-loop-less Inv-loop μ-loop
 loop-less c = search needs
 
 loop-again : tie.Need-loop-again Inv-loop μ-loop
-loop-again c = (search needs, row-clear-more _ _ _ (search needs) (c .before .before .loop .inv .1) (c .spot .ensures))
+unfolding empties
+loop-again c = (search needs, row-more _ _ _ _ (search needs) (c .before .before .loop .inv .1) (c .spot .ensures) refl)
 
 returns : tie.Need-returns Inv-loop μ-loop
-returns c = row-clear-all _ _ _ (c .before .loop .inv .1) (omega arith)
+returns c = row-all _ _ _ _ (c .before .loop .inv .1) (omega arith)
 
 pub row-clear-spec : {M : Type 1} → statement M
 row-clear-spec =

@@ -3,9 +3,10 @@ use borrow.Author.Needs.{needs}
 use mathlib.Core.Path.{_≡_}
 use Prim.Native.Nat.{_≤_, _-_}
 use native.Mathlib.Omega.{arith}
+use Rattle.sets.specs.Set.{strikes}
 use Rattle.lists.specs.Edit.{edit}
-use Rattle.floodnet.specs.CodeWhen.{strikes, picks}
-use Rattle.floodnet.specs.CodeRows.{front, row-none, row-minus-more, row-minus-all}
+use Rattle.floodnet.specs.CodeWhen.{picks}
+use Rattle.floodnet.specs.CodeRows.{front, row-none, row-more, row-all}
 use Rattle.floodnet.proofs.rows.row_minus.Statement.{statement}
 use Rattle.floodnet.proofs.rows.row_minus.Tie as tie
 
@@ -43,12 +44,13 @@ loop-less : tie.Need-loop-less Inv-loop μ-loop
 loop-less c = search needs
 
 loop-again : tie.Need-loop-again Inv-loop μ-loop
+unfolding strikes
 loop-again c =
     let k = c .before .before in
-    (search needs, row-minus-more _ _ _ _ (search needs) (k .before .before .loop .inv .1) (k .spot .ensures) (c .minus32 .ensures))
+    (search needs, row-more _ _ _ _ (search needs) (k .before .before .loop .inv .1) (k .spot .ensures) (c .minus32 .ensures))
 
 returns : tie.Need-returns Inv-loop μ-loop
-returns c = row-minus-all _ _ _ _ (c .before .loop .inv .1) (omega arith)
+returns c = row-all _ _ _ _ (c .before .loop .inv .1) (omega arith)
 
 pub row-minus-spec : {M : Type 1} → statement M
 row-minus-spec =

@@ -1,15 +1,15 @@
 -- `floodnet::rows::row_note` meets its contract. Assumes nothing.
 use borrow.Author.Needs.{needs}
 use mathlib.Core.Path.{_∙_}
-use Rattle.sets.specs.Set.{only}
+use Rattle.sets.specs.Set.{only, puts}
 use Rattle.floodnet.specs.CodeVisit.{along-done}
-use Rattle.floodnet.specs.CodeWhen.{puts, Picking, picking-none}
+use Rattle.floodnet.specs.CodeWhen.{Picking, picking-none}
 use Rattle.floodnet.specs.CodeArrays.{inside, inside-no-topic, inside-noted, noting}
 use Rattle.floodnet.proofs.rows.row_note.Statement.{statement}
 use Rattle.floodnet.proofs.rows.row_note.Tie as tie
 
 abbrev Inv-loop : tie.InvT-loop
-Inv-loop known₀ row topics i left₀ known left = Picking topics left (inside (only (row .0))) (puts i) known₀ known
+Inv-loop known₀ row topics i left₀ known left = Picking topics left (inside (only (row .0))) (puts (only i)) known₀ known
 
 abbrev μ-loop : tie.MeasureT-loop
 μ-loop known₀ row topics i left₀ known left = left
@@ -51,6 +51,7 @@ loop-less : tie.Need-loop-less Inv-loop μ-loop
 loop-less c = search needs
 
 loop-again : tie.Need-loop-again Inv-loop μ-loop
+unfolding puts
 loop-again c =
     let k = c .before .before .before in
     noting _ _ (k .before .before .before .loop .inv) (search needs) (k .before .lowest32 .ensures .0) (c .rest32 .ensures .0) (k .spot .ensures) (c .before .with32 .ensures)

@@ -1,10 +1,10 @@
 -- `floodnet::rows::row_strike` meets its contract. Assumes nothing.
 use borrow.Author.Needs.{needs}
 use mathlib.Core.Path.{_∙_}
-use Rattle.sets.specs.Set.{only}
+use Rattle.sets.specs.Set.{only, strikes}
 use Rattle.floodnet.specs.CodeVisit.{along-done}
-use Rattle.floodnet.specs.CodeWhen.{strikes, Picking, picking-none}
-use Rattle.floodnet.specs.CodeArrays.{inside, inside-no-topic, inside-struck, striking}
+use Rattle.floodnet.specs.CodeWhen.{Picking, picking-none}
+use Rattle.floodnet.specs.CodeArrays.{inside, inside-no-topic, inside-struck, noting}
 use Rattle.floodnet.proofs.rows.row_strike.Statement.{statement}
 use Rattle.floodnet.proofs.rows.row_strike.Tie as tie
 
@@ -51,9 +51,10 @@ loop-less : tie.Need-loop-less Inv-loop μ-loop
 loop-less c = search needs
 
 loop-again : tie.Need-loop-again Inv-loop μ-loop
+unfolding strikes
 loop-again c =
     let k = c .before .before .before in
-    striking _ _ (k .before .before .before .loop .inv) (search needs) (k .before .lowest32 .ensures .0) (c .rest32 .ensures .0) (k .spot .ensures) (c .before .without32 .ensures)
+    noting _ _ (k .before .before .before .loop .inv) (search needs) (k .before .lowest32 .ensures .0) (c .rest32 .ensures .0) (k .spot .ensures) (c .before .without32 .ensures)
 
 returns : tie.Need-returns Inv-loop μ-loop
 returns c = along-done (c .before .loop .inv) (c .loop-test .left) ∙ inside-struck _ _ _ _

@@ -1,11 +1,11 @@
 -- `floodnet::rows::strike_all` meets its contract. Assumes nothing.
 use borrow.Author.Needs.{needs}
-use mathlib.Core.Path.{_∙_}
-use Rattle.sets.specs.Set.{only}
+use mathlib.Core.Path.{sym, _∙_}
+use Rattle.sets.specs.Set.{only, strikes}
 use Rattle.floodnet.specs.CodeVisit.{along-done}
-use Rattle.floodnet.specs.CodeWhen.{strikes, Picking, picking-none}
+use Rattle.floodnet.specs.CodeWhen.{strikes-twice, Picking, picking-none}
 use Rattle.floodnet.specs.CodeArrays.{inside, inside-no-peer, inside-struck}
-use Rattle.floodnet.specs.CodeWalks.{striking-row}
+use Rattle.floodnet.specs.CodeWalks.{noting-row}
 use Rattle.floodnet.proofs.rows.strike_all.Statement.{statement}
 use Rattle.floodnet.proofs.rows.strike_all.Tie as tie
 
@@ -35,7 +35,7 @@ loop-less c = search needs
 
 loop-again : tie.Need-loop-again Inv-loop μ-loop
 loop-again c =
-    striking-row _ _ (c .before .before .before .before .before .loop .inv) (search needs) (c .before .before .before .lowest32 .ensures .0) (c .rest32 .ensures .0) (c .before .row-strike .ensures)
+    noting-row _ _ (strikes-twice _) (c .before .before .before .before .before .loop .inv) (search needs) (c .before .before .before .lowest32 .ensures .0) (c .rest32 .ensures .0) (c .before .row-strike .ensures ∙ sym (inside-struck _ _ _ _))
 
 returns : tie.Need-returns Inv-loop μ-loop
 returns c = along-done (c .before .loop .inv) (c .loop-test .left) ∙ inside-struck _ _ _ _

@@ -18,18 +18,27 @@ returns : tie.Need-returns
 returns c = drain-refused _ _ _ (c .before .before .before .start .ensures) (c .before .if1 .taken) (c .refused .ensures)
 
 drain-all-requires : tie.Need-drain-all-requires
-drain-all-requires c κs = started-rows _ _ _ (c .before .before .before .before .before .before .before .before .start .result) _ (c .before .before .before .before .before .before .before .before .start .ensures) .topics-fit
+drain-all-requires c κs =
+    let read = c .before .before .before .before .before .before .before .before in
+    started-rows _ _ _ (read .start .result) _ (read .start .ensures) .topics-fit
 
 save-requires : tie.Need-save-requires
-save-requires c κs = started-long _ _ _ (c .before .before .before .before .before .before .before .before .before .before .before .before .before .before .before .before .start .result) _ (c .before .before .before .before .before .before .before .before .before .before .before .before .before .before .before .before .start .ensures) (c .before .before .before .before .before .before .before .before .before .before .before .before .before .before .if1 .left)
+save-requires c κs =
+    let past = c .before .before .before .before .before .before .before .before .before .before .before .before .before .before in
+    let read = past .before .before in
+    started-long _ _ _ (read .start .result) _ (read .start .ensures) (past .if1 .left)
 
 same-length-2 : tie.Need-same-length-2
 same-length-2 c = search needs
 
 returns-2 : tie.Need-returns-2
 returns-2 c =
-    let z = (c .before .before .before .before .before .before .before .before .before .before .before .before .before .before .before .before .before .if1 .left) in
-    drain-done _ _ _ _ (λ i. c .before .before .before .before .before .before .before .before .before .before .before .before .before .before .before .before .before .before .before .before .before .before .before .before .before .before .before .before .slice-known .given i .fits) (started _ _ _ (c .before .before .before .before .before .before .before .before .before .before .before .before .before .before .before .before .before .before .before .start .result) _ (c .before .before .before .before .before .before .before .before .before .before .before .before .before .before .before .before .before .before .before .start .ensures) z) z (c .before .before .before .before .before .before .before .before .before .before .drain-all .ensures) (c .before .before .save .ensures)
+    let drained = c .before .before .before .before .before .before .before .before .before .before in
+    let past = drained .before .before .before .before .before .before .before in
+    let read = past .before .before in
+    let known = read .before .before .before .before .before .before .before .before .before in
+    drain-done _ _ _ _ (λ i. known .slice-known .given i .fits) (started _ _ _ (read .start .result) _ (read .start .ensures) (past .if1 .left)) (past .if1 .left)
+    (drained .drain-all .ensures) (c .before .before .save .ensures)
 
 pub relay-drain-spec : {M : Type 1} → statement M
 relay-drain-spec =

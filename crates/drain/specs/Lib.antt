@@ -4,6 +4,7 @@ pub mod ReachWords
 pub mod ReachLaws
 pub mod Pairs
 pub mod AtOnce
+pub mod AtOnceForwards
 pub mod Turns
 pub mod DrainLaws
 pub mod Lent

@@ -25,7 +25,7 @@ use Rattle.floodnet.specs.Forward.{forwarded}
 use Rattle.floodnet.specs.Refusals.{refusalForward}
 use Rattle.floodnet.specs.View.{view, fwd}
 use Rattle.floodnet.specs.ViewLaws.{network-machine}
-use Rattle.drain.specs.Drain.{roundsOf, drainOf, quietOf}
+use Rattle.drain.specs.Drain.{roundsOf, drainOf}
 use Rattle.drain.specs.Reach.{Forward, after, Accepted, unseen, Quiet, Reaches, holder, onward, Shortest, dueOf, Reach}
 use Rattle.drain.specs.ReachWords.{numbers, numbers-length, accepted-pending, pending-accepted, after-run, accepts, named, named-length, after-named, accepted-named, due-length, after-due, after-part, still, quiet, quiet-words, unseen-pairs, to-chain, of-chain}
 

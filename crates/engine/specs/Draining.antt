@@ -7,7 +7,6 @@ use Prim.Native.Nat.{ℕ}
 use lib.Dec.{eqb}
 use Rattle.network.specs.State.{bytesOf}
 use Rattle.drain.specs.Drain.{drainOf, quietOf}
-use Rattle.engine.specs.declared.Begun.{Begun}
 use Rattle.engine.specs.declared.Drained.{Drained}
 use Rattle.engine.specs.Start.{beginOf}
 

@@ -1,6 +1,7 @@
 -- DEMAND 3 FOR FORWARDS OVER BYTES, however a host makes them: by one run over forward records, or by single forwards, one call after another.
 -- The client's page (the crate drain's specs/Reach.antt, which opens with a legend) holds of the bytes that they leave: once nothing is pending
--- these are the drain's, for every order. specs/ReachPageLaws.antt proves it of `relay_run` and of `relay_forward`. Assumes nothing.
+-- these are the drain's, for every order. specs/ReachPageLaws.antt proves it of what `relay_run` and `relay_forward` promise: `run-forwards`,
+-- `run-accepts`, `alone-forwards`, `same-bytes`. Assumes nothing.
 use mathlib.Core.Path.{_≡_}
 use mathlib.Core.List.{List, [], _∷_}
 use Prim.Native.Nat.{ℕ, _+_, _*_, _≤_}
@@ -12,7 +13,6 @@ use Rattle.events.specs.declared.Event.the-variants as events
 use Rattle.events.specs.declared.Read.the-variants.{Taken}
 use Rattle.events.specs.Event.{readAt}
 use Rattle.drain.specs.Reach.{Forward, by, after, Accepted, Quiet}
-use Rattle.engine.specs.Start.{beginOf}
 use Rattle.engine.specs.Alone.{forwardOf}
 use Rattle.engine.specs.Draining.{drainEndOf}
 

@@ -24,6 +24,7 @@ use Rattle.floodnet.specs.Forward.{forwarded}
 use Rattle.floodnet.specs.Refusals.{refusalForward}
 use Rattle.drain.specs.Reach.{Forward, by, after, Accepted, Quiet}
 use Rattle.drain.specs.ReachLaws.{reach}
+use Rattle.engine.specs.declared.Answer.{Answer}
 use Rattle.engine.specs.declared.Tally.{Tally}
 use Rattle.engine.specs.declared.Begun.{Begun}
 use Rattle.engine.specs.Start.{beginOf}
@@ -65,6 +66,10 @@ module _ (s t : List ℕ) (h : Bytes s) (z : beginOf s t 0 .number ≡ 0) where
 
 -- ---- a run over forward records
 
+-- the answer of a run that refuses nothing
+abbrev done : ℕ → Answer
+done count = record { number = 0; place = 0; accepted = count }
+
 module _ (ev : List ℕ) (b : Table) where
   -- one forward: the number that it is answered with, and the network after it
   one-number : (place : ℕ) (n : Network) (p : Peer) (m : Message) → readAt ev place ≡ Taken (events.Forward p m) → outcomeAt ev place b n .turned .number ≡ refusalForward n p m
@@ -75,6 +80,12 @@ module _ (ev : List ℕ) (b : Table) where
   unfolding turnOf
   one-after place n p m e z = ap (λ (r : Read). turnOf b n r .network) e ∙ forward-after n b (p .0) (m .0) z
 
+  -- an accepted forward, and then the rest
+  passes : (k place : ℕ) (n : Network) (t : Tally) (p : Peer) (m : Message) → readAt ev place ≡ Taken (events.Forward p m) → refusalForward n p m ≡ 0
+      → runFrom (suc k) ev place b n t ≡ runFrom k ev (place + 1) b (forwarded n b p m) (tallyAfter (outcomeAt ev place b n) t)
+  passes k place n t p m r e =
+      run-on k ev place b n t (one-number place n p m r ∙ e) ∙ ap (λ (o : Network). runFrom k ev (place + 1) b o (tallyAfter (outcomeAt ev place b n) t)) (one-after place n p m r e)
+
   -- A run that answers 0 has accepted each, and ends in the network after them.
   all-taken : (l : List Forward) (place : ℕ) (n : Network) (t : Tally) → ForwardsAt ev place l → runFrom (length l) ev place b n t .answer .number ≡ 0
       → Accepted b n l × (runFrom (length l) ev place b n t .network ≡ after b n l)
@@ -83,23 +94,28 @@ module _ (ev : List ℕ) (b : Table) where
   all-taken (by p m ∷ l) place n t r k =
       first (ℕ-discrete (refusalForward n p m) 0) (all-taken l (place + 1) (forwarded n b p m) (tallyAfter (outcomeAt ev place b n) t) (r .1))
     where
-      rest : Network → Final
-      rest o = runFrom (length l) ev (place + 1) b o (tallyAfter (outcomeAt ev place b n) t)
-
-      whole : Final
-      whole = runFrom (suc (length l)) ev place b n t
+      rest : Final
+      rest = runFrom (length l) ev (place + 1) b (forwarded n b p m) (tallyAfter (outcomeAt ev place b n) t)
 
       first : Dec (refusalForward n p m ≡ 0)
-          → (rest (forwarded n b p m) .answer .number ≡ 0 → Accepted b (forwarded n b p m) l × (rest (forwarded n b p m) .network ≡ after b (forwarded n b p m) l))
-          → ((refusalForward n p m ≡ 0) × Accepted b (forwarded n b p m) l) × (whole .network ≡ after b (forwarded n b p m) l)
+          → (rest .answer .number ≡ 0 → Accepted b (forwarded n b p m) l × (rest .network ≡ after b (forwarded n b p m) l))
+          → ((refusalForward n p m ≡ 0) × Accepted b (forwarded n b p m) l) × (runFrom (suc (length l)) ev place b n t .network ≡ after b (forwarded n b p m) l)
       first (yes e) ih =
-          let on : whole ≡ rest (forwarded n b p m) = run-on (length l) ev place b n t (one-number place n p m (r .0) ∙ e) ∙ ap rest (one-after place n p m (r .0) e) in
+          let on = passes (length l) place n t p m (r .0) e in
           let x = ih (sym (ap (λ (f : Final). f .answer .number) on) ∙ k) in
           ((e, x .0), ap (λ (f : Final). f .network) on ∙ x .1)
       first (no e) ih =
           let is = one-number place n p m (r .0) in
           let stop = run-stops (length l) ev place b n t (λ w. e (sym is ∙ w)) in
           absurd (e (sym is ∙ sym (ap (λ (f : Final). f .answer .number) stop) ∙ k))
+
+  -- And back: accepted forwards are all taken.
+  none-refused : (l : List Forward) (place : ℕ) (n : Network) (t : Tally) → ForwardsAt ev place l → Accepted b n l → runFrom (length l) ev place b n t .answer ≡ done (place + length l)
+  unfolding runFrom
+  none-refused [] place n t r a = ap done (omega arith)
+  none-refused (by p m ∷ l) place n t r a =
+      ap (λ (f : Final). f .answer) (passes (length l) place n t p m (r .0) (a .0))
+      ∙ none-refused l (place + 1) (forwarded n b p m) (tallyAfter (outcomeAt ev place b n) t) (r .1) (a .1) ∙ ap done (omega arith)
 
 -- whole records begin as no events do
 begins-alike : (s t : List ℕ) (events : ℕ) → events % 16 ≡ 0 → beginOf s t events ≡ beginOf s t 0
@@ -128,6 +144,11 @@ module _ (s t ev : List ℕ) (old : Tally) (l : List Forward) (r : ForwardRecord
       first : Dec (beginOf s t 0 .number ≡ 0) → beginOf s t 0 .number ≡ 0
       first (yes e) = e
       first (no e) = sym (ap (λ (x : Ending). x .answer .number) (run-refused e)) ∙ k
+
+  -- Accepted forwards are all taken, and counted.
+  pub run-accepts : beginOf s t 0 .number ≡ 0 → Accepted (beginOf s t 0 .table) (beginOf s t 0 .network) l → runOf s t ev old .answer ≡ done (length l)
+  run-accepts z a =
+      ap (λ (x : Ending). x .answer) (run-is z) ∙ none-refused ev (beginOf s t 0 .table) l 0 (beginOf s t 0 .network) zeroTally (r .each) a ∙ ap done (omega arith)
 
   -- THE RUN: where it answers 0, it leaves what the page says.
   pub run-forwards : Bytes s → runOf s t ev old .answer .number ≡ 0 → ForwardsLeave s t (beginOf s t 0 .table) (beginOf s t 0 .network) l (runOf s t ev old .state)

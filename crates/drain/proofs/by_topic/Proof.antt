@@ -34,10 +34,14 @@ with64-requires : tie.Need-with64-requires Inv-loop μ-loop
 with64-requires c κs = search needs
 
 mul-r : tie.Need-mul-r Inv-loop μ-loop
-mul-r c = omega (arith, c .before .before .before .before .pre (c .before .before .before .loop .m))
+mul-r c =
+    let turn = c .before .before .before in
+    omega (arith, turn .before .pre (turn .loop .m))
 
 array-write-r : tie.Need-array-write-r Inv-loop μ-loop
-array-write-r c = omega (arith, c .before .before .before .before .pre (c .before .before .before .loop .m))
+array-write-r c =
+    let turn = c .before .before .before in
+    omega (arith, turn .before .pre (turn .loop .m))
 
 add-m : tie.Need-add-m Inv-loop μ-loop
 add-m c = search needs
@@ -46,7 +50,9 @@ loop-less : tie.Need-loop-less Inv-loop μ-loop
 loop-less c = search needs
 
 loop-again : tie.Need-loop-again Inv-loop μ-loop
-loop-again c = sorting-more (c .before .before .before .loop .inv) (search needs) (c .before .before .before .before .pre _) (c .with64 .ensures)
+loop-again c =
+    let turn = c .before .before .before in
+    sorting-more (turn .loop .inv) (search needs) (turn .before .pre _) (c .with64 .ensures)
 
 returns : tie.Need-returns Inv-loop μ-loop
 returns c = sorting-done (c .before .loop .inv) (omega arith)

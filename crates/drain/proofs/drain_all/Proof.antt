@@ -28,36 +28,50 @@ waiting-requires c κs = search needs
 
 returns : tie.Need-returns Inv-loop μ-loop
 returns c =
-    lent-done (c .before .before .before .before .loop .inv) (inl (sym (c .before .waiting .ensures .0) ∙ c .if1 .taken)) _
+    let turn = c .before .before .before .before in
+    lent-done (turn .loop .inv) (inl (sym (c .before .waiting .ensures .0) ∙ c .if1 .taken)) _
     (sym (eq-eqb _ 0 (c .if1 .taken)) ∙ c .before .waiting .ensures .1)
 
 sub-drain-round : tie.Need-sub-drain-round Inv-loop μ-loop
 sub-drain-round c = search needs
 
 drain-round-requires : tie.Need-drain-round-requires Inv-loop μ-loop
-drain-round-requires c κs = (c .before .before .before .before .before .before .before .before .before .pre, c .before .before .before .before .before .before .before .before .by-topic .ensures)
+drain-round-requires c κs =
+    let sorted = c .before .before .before .before .before .before .before .before in
+    (sorted .before .pre, sorted .by-topic .ensures)
 
 -- one round: within the budget, and something was forwarded
-fits : (c : tie.After-drain-round Inv-loop μ-loop) → c .before .before .before .before .before .before .before .before .loop .made + c .drain-round .result ≤ c .before .before .before .before .before .before .before .before .before .before .args .budget
-fits c = lent-fits (c .before .before .before .before .before .before .before .before .loop .inv) (c .before .before .before .before .before .waiting .ensures .0) (c .before .before .before .before .if1 .left) (c .drain-round .ensures .1) (c .drain-round .ensures .0)
+fits : (c : tie.After-drain-round Inv-loop μ-loop)
+    → (let turn = c .before .before .before .before .before .before .before .before in
+    turn .loop .made + c .drain-round .result ≤ turn .before .before .args .budget)
+fits c =
+    let some = c .before .before .before .before in
+    let turn = some .before .before .before .before in
+    lent-fits (turn .loop .inv) (some .before .waiting .ensures .0) (some .if1 .left) (c .drain-round .ensures .1) (c .drain-round .ensures .0)
 
 moves : (c : tie.After-drain-round Inv-loop μ-loop) → 0 < c .drain-round .result
 moves c =
-    lent-moves (c .before .before .before .before .before .before .before .before .loop .inv) (c .before .before .before .before .before .waiting .ensures .0) (c .before .before .before .before .if1 .left) (c .drain-round .ensures .1) (c .drain-round .ensures .0)
+    let some = c .before .before .before .before in
+    let turn = some .before .before .before .before in
+    lent-moves (turn .loop .inv) (some .before .waiting .ensures .0) (some .if1 .left) (c .drain-round .ensures .1) (c .drain-round .ensures .0)
     (search needs)
 
 add-made : tie.Need-add-made Inv-loop μ-loop
 add-made c = omega (arith, fits c)
 
 add-rounds : tie.Need-add-rounds Inv-loop μ-loop
-add-rounds c = omega (arith, fits (c .before), moves (c .before), c .before .before .before .before .before .before .before .before .before .loop .inv .going bare [] .fewer)
+add-rounds c =
+    let turn = c .before .before .before .before .before .before .before .before .before in
+    omega (arith, fits (c .before), moves (c .before), turn .loop .inv .going bare [] .fewer)
 
 loop-less : tie.Need-loop-less Inv-loop μ-loop
 loop-less c = omega (arith, fits (c .before), moves (c .before))
 
 loop-again : tie.Need-loop-again Inv-loop μ-loop
 loop-again c =
-    lent-round (c .before .before .before .before .before .before .before .before .before .loop .inv) (c .before .before .before .before .before .before .waiting .ensures .0) (c .before .before .before .before .before .if1 .left) (c .before .drain-round .ensures .1) (c .before .drain-round .ensures .0)
+    let some = c .before .before .before .before .before in
+    let turn = some .before .before .before .before in
+    lent-round (turn .loop .inv) (some .before .waiting .ensures .0) (some .if1 .left) (c .before .drain-round .ensures .1) (c .before .drain-round .ensures .0)
     (c .if2 .taken)
 
 loop-less-2 : tie.Need-loop-less-2 Inv-loop μ-loop
@@ -65,7 +79,9 @@ loop-less-2 c = omega (arith, fits (c .before), moves (c .before))
 
 loop-again-2 : tie.Need-loop-again-2 Inv-loop μ-loop
 loop-again-2 c =
-    lent-part (c .before .before .before .before .before .before .before .before .before .loop .inv) (c .before .before .before .before .before .before .waiting .ensures .0) (c .before .before .before .before .before .if1 .left) (c .before .drain-round .ensures .1) (c .before .drain-round .ensures .0)
+    let some = c .before .before .before .before .before in
+    let turn = some .before .before .before .before in
+    lent-part (turn .loop .inv) (some .before .waiting .ensures .0) (some .if1 .left) (c .before .drain-round .ensures .1) (c .before .drain-round .ensures .0)
     (c .if2 .left)
 
 waiting-requires-2 : tie.Need-waiting-requires-2 Inv-loop μ-loop

@@ -37,13 +37,16 @@ sub-drain-peer c =
     search needs
 
 drain-peer-requires : tie.Need-drain-peer-requires Inv-loop μ-loop
-drain-peer-requires c κs = (search needs, c .before .before .before .before .before .pre)
+drain-peer-requires c κs =
+    let turn = c .before .before .before .before in
+    (search needs, turn .before .pre)
 
 add-made : tie.Need-add-made Inv-loop μ-loop
 add-made c =
+    let turn = c .before .before .before .before .before in
     omega (
       arith,
-      peers-more _ _ _ _ _ (c .before .before .before .before .before .loop .inv .1 bare []) refl (c .drain-peer .ensures .1 bare [])
+      peers-more _ _ _ _ _ (turn .loop .inv .1 bare []) refl (c .drain-peer .ensures .1 bare [])
           (c .drain-peer .ensures .0) .within,
     )
 
@@ -54,11 +57,9 @@ loop-less : tie.Need-loop-less Inv-loop μ-loop
 loop-less c = search needs
 
 loop-again : tie.Need-loop-again Inv-loop μ-loop
-loop-again c = (
-  omega arith,
-  λ n os. peers-more _ _ _ _ _ (c .before .before .before .before .before .loop .inv .1 n os) refl (c .drain-peer .ensures .1 n os)
-      (c .drain-peer .ensures .0),
-)
+loop-again c =
+    let turn = c .before .before .before .before .before in
+    (omega arith, λ n os. peers-more _ _ _ _ _ (turn .loop .inv .1 n os) refl (c .drain-peer .ensures .1 n os) (c .drain-peer .ensures .0))
 
 returns : tie.Need-returns Inv-loop μ-loop
 returns c =

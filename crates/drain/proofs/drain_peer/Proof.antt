@@ -10,7 +10,7 @@ use Rattle.network.specs.Network.{bare}
 use Rattle.floodnet.specs.View.{fwd}
 use Rattle.floodnet.specs.CodeForward.{table, withMessages}
 use Rattle.drain.specs.Pairs.{Walk, walk-none, walk-more, walk-done}
-use Rattle.drain.specs.AtOnce.{all-at-once}
+use Rattle.drain.specs.AtOnceForwards.{all-at-once}
 use Rattle.drain.proofs.drain_peer.Statement.{statement}
 use Rattle.drain.proofs.drain_peer.Tie as tie
 
@@ -32,10 +32,14 @@ members-requires : tie.Need-members-requires Inv-loop μ-loop
 members-requires c κs = search needs
 
 forward-set-requires : tie.Need-forward-set-requires Inv-loop μ-loop
-forward-set-requires c κs = c .before .before .before .before .before .pre
+forward-set-requires c κs =
+    let start = c .before .before .before .before .before in
+    start .pre
 
 returns-2 : tie.Need-returns-2 Inv-loop μ-loop
-returns-2 c = all-at-once (search needs) (c .before .before .before .before .members .ensures .0) (c .before .before .before .if2 .taken) (c .forward-set .ensures)
+returns-2 c =
+    let asked = c .before .before .before in
+    all-at-once (search needs) (asked .before .members .ensures .0) (asked .if2 .taken) (c .forward-set .ensures)
 
 loop-holds : tie.Need-loop-holds Inv-loop μ-loop
 loop-holds c = λ n os. walk-none _ _ _ _ _ (search needs)
@@ -51,7 +55,9 @@ cast-t22 : tie.Need-cast-t22 Inv-loop μ-loop
 cast-t22 c = search needs
 
 forward-requires : tie.Need-forward-requires Inv-loop μ-loop
-forward-requires c κs = (search needs, search needs, c .before .before .before .before .before .before .before .before .before .pre .1 .0 _)
+forward-requires c κs =
+    let start = c .before .before .before .before .before .before .before .before .before in
+    (search needs, search needs, start .pre .1 .0 _)
 
 rest64-requires : tie.Need-rest64-requires Inv-loop μ-loop
 rest64-requires c κs = search needs
@@ -65,13 +71,16 @@ loop-less c = search needs
 loop-again : tie.Need-loop-again Inv-loop μ-loop
 unfolding fwd
 loop-again c =
-    λ n os. walk-more _ _ _ _ _ (c .before .before .before .before .before .before .before .loop .inv n os) (search needs) (search needs)
-    (c .before .before .before .before .lowest64 .ensures .0) (c .rest64 .ensures .0) (c .before .forward .ensures .1 n os)
+    let least = c .before .before .before .before in
+    let turn = least .before .before .before in
+    λ n os. walk-more _ _ _ _ _ (turn .loop .inv n os) (search needs) (search needs)
+    (least .lowest64 .ensures .0) (c .rest64 .ensures .0) (c .before .forward .ensures .1 n os)
 
 returns-4 : tie.Need-returns-4 Inv-loop μ-loop
 returns-4 c =
     let v = c .before .loop .inv bare [] in
-    let e : c .before .loop .made ≡ c .before .before .before .before .before .args .left = omega arith in
+    let start = c .before .before .before .before .before in
+    let e : c .before .loop .made ≡ start .args .left = omega arith in
     (walk-done _ _ _ _ _ v (inr e) .0, λ n os. walk-done _ _ _ _ _ (c .before .loop .inv n os) (inr e) .1)
 
 pub drain-peer-spec : {M : Type 1} → statement M

@@ -81,9 +81,10 @@ loop-less c = search needs
 
 loop-again : tie.Need-loop-again Inv-loop μ-loop
 loop-again c =
-    let s = c .before .before .before .before .before .before .before .before .before .before in
-    let v = c .before .before .before .before .loop .inv in
-    let l : c .before .before .before .before .loop .t < 32 = omega arith in
+    let turn = c .before .before .before .before in
+    let s = turn .before .before .before .before .before .before in
+    let v = turn .loop .inv in
+    let l : turn .loop .t < 32 = omega arith in
     let e = of-words (s .args .topics .now) (s .args .words .now) (s .fits .todo .fits) (s .pre .1 .1) l (c .before .meet64 .ensures) in
     ⊎-elim
     (λ w. rw (w .5) (spreading-more (search needs) v l e (w .4 .ensures .1) (w .4 .ensures .0)))
@@ -92,8 +93,9 @@ loop-again c =
 
 returns : tie.Need-returns Inv-loop μ-loop
 returns c =
-    let s = c .before .before .before .before .before .before .before in
-    spreading-done (s .args .pending .now) (s .args .seen .now) (s .args .p .0) (search needs) (s .pre .1 .0) (c .before .before .before .before .minus64 .ensures)
+    let less = c .before .before .before .before in
+    let s = less .before .before .before in
+    spreading-done (s .args .pending .now) (s .args .seen .now) (s .args .p .0) (search needs) (s .pre .1 .0) (less .minus64 .ensures)
     (c .before .before .union64 .ensures) (c .before .loop .inv) (omega arith)
 
 pub forward-set-spec : {M : Type 1} → statement M

@@ -54,7 +54,8 @@ loop-less c = search needs
 
 loop-again : tie.Need-loop-again Inv-loop μ-loop
 loop-again c =
-    giving _ _ (c .before .before .before .before .before .before .before .loop .inv) (search needs) (c .before .before .before .before .before .lowest32 .ensures .0) (c .rest32 .ensures .0)
+    let least = c .before .before .before .before .before in
+    giving _ _ (least .before .before .loop .inv) (search needs) (least .lowest32 .ensures .0) (c .rest32 .ensures .0)
     (c .before .union64 .ensures ∙ ap (union _) (c .before .before .minus64 .ensures))
 
 returns : tie.Need-returns Inv-loop μ-loop

@@ -41,7 +41,13 @@ loop-less c = omega arith
 
 loop-again : tie.Need-loop-again Inv-loop μ-loop
 loop-again c =
-    (omega arith, ap₂ _+_ (c .before .before .before .loop .inv .1) (c .members .ensures .0) ∙ sym (sum-more _ _), omega arith, empty-more (c .before .before .before .loop .total) (getD (c .before .before .before .before .args .pending .now) (c .before .before .before .loop .p) 0) (c .members .ensures .2) (c .members .ensures .0) (c .before .before .before .loop .inv .3) ∙ sym (all-more _ _))
+    let turn = c .before .before .before in
+    let w = getD (turn .before .args .pending .now) (turn .loop .p) 0 in (
+      omega arith,
+      ap₂ _+_ (turn .loop .inv .1) (c .members .ensures .0) ∙ sym (sum-more _ _),
+      omega arith,
+      empty-more (turn .loop .total) w (c .members .ensures .2) (c .members .ensures .0) (turn .loop .inv .3) ∙ sym (all-more _ _),
+    )
 
 returns : tie.Need-returns Inv-loop μ-loop
 unfolding waitingOf

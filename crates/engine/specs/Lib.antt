@@ -28,3 +28,5 @@ pub mod StartPageLaws
 pub mod RunPage
 pub mod RunPageLaws
 pub mod FromBlank
+pub mod ImagePage
+pub mod ImagePageLaws

@@ -14,8 +14,9 @@ use Rattle.sets.specs.Least.{lowestOf-lt-holds, lowestOf-least, lowestOf-is, lo
 use Rattle.network.specs.declared.Opened.{Opened}
 use Rattle.network.specs.declared.Listed.{Listed}
 use Rattle.network.specs.Network.{peer}
-use Rattle.network.specs.State.{openOf, faultAt, unsoundAt}
+use Rattle.network.specs.State.{openOf, opened, faultAt, unsoundAt}
 use Rattle.network.specs.Rows.{rowRight, badRow, listOf}
+use Rattle.network.specs.OpenedSound.{accepted}
 use Rattle.network.specs.Opening.{open-5, open-0}
 use Rattle.network.specs.Listing.{Right, row-why, row-is, row-not, list-4, list-0}
 use Rattle.engine.specs.declared.Begun.{Begun}
@@ -157,6 +158,17 @@ module _ (s t : List ℕ) (events : ℕ) where
       (λ r z. absurd (omega arith))
       (λ p z. absurd (omega arith))
       λ a b c d z. (refl, refl)
+
+  -- the state is one that a reading accepts
+  pub begin-opens : beginOf s t events .number ≡ 0 → openOf s ≡ opened 0 0 (openOf s .network)
+  begin-opens =
+      begin-by s t events (λ (g : Begun). g .number ≡ 0 → openOf s ≡ opened 0 0 (openOf s .network))
+      (λ z. absurd (omega arith))
+      (λ z. absurd (omega arith))
+      (λ z. absurd (omega arith))
+      (λ r z. absurd (omega arith))
+      (λ p z. absurd (omega arith))
+      λ a b c d z. let o = accepted s d .is in o ∙ ap (λ (x : Opened). opened 0 0 (x .network)) (sym o)
 
 -- of the events only whether they are whole records matters
 pub begin-same : (s t : List ℕ) (a b : ℕ) → a % 16 ≡ 0 → b % 16 ≡ 0 → beginOf s t a ≡ beginOf s t b

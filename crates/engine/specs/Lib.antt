@@ -30,3 +30,4 @@ pub mod RunPageLaws
 pub mod FromBlank
 pub mod ImagePage
 pub mod ImagePageLaws
+pub mod Settled

@@ -30,3 +30,4 @@ pub mod CodeTurns
 pub mod Exactly
 pub mod Page
 pub mod PageLaws
+pub mod Settled

@@ -2,7 +2,7 @@
 -- said of the event's own topics: topics to which the peer is subscribed already, or to none of which it is. n is the network before the
 -- event, o the network after it. How to read it: `x ≡ true`: x holds; `x ≡ false`: x does not; `→`: then. Assumes nothing.
 use mathlib.Core.Path.{_≡_, ap}
-use mathlib.Core.Bool.{true, false, _&&_, not}
+use mathlib.Core.Bool.{true, false, not}
 use Prim.Native.Nat.{ℕ}
 use Rattle.sets.specs.Bools.{clash, not-false, and-both}
 use Rattle.sets.specs.Set.{has, union, minus, Subset}

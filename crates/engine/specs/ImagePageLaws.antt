@@ -23,7 +23,7 @@ use Rattle.events.specs.Decoded.{Judged}
 use Rattle.events.specs.RoundTrip.{read-judged, read-fits}
 use Rattle.floodnet.specs.Step.{refusal, effect}
 use Rattle.broadcastnet.specs.Broadcast.{Step}
-use Rattle.broadcastnet.specs.Commit.{image, asNetwork, imageNet}
+use Rattle.broadcastnet.specs.Commit.{image, imageNet}
 use Rattle.broadcastnet.specs.ImageNet.{image-written, imageNet-sound}
 use Rattle.broadcastnet.specs.Page.{Row}
 use Rattle.broadcastnet.specs.Unchanged.{Unchanged, unchanged}
@@ -35,9 +35,8 @@ use Rattle.engine.specs.StartPageLaws.{begin-opens}
 use Rattle.engine.specs.Run.{runOf, Ends}
 use Rattle.engine.specs.RunSound.{reads-fit, turn-sound}
 use Rattle.engine.specs.RunReached.{reached, turnAt}
-use Rattle.engine.specs.Alone.{checked}
 use Rattle.engine.specs.Imaging.{imageAnswerOf, imagedOf}
-use Rattle.engine.specs.RunPage.{netIn, tableIn, RunDone, TurnPage}
+use Rattle.engine.specs.RunPage.{netIn, tableIn, RunDone}
 use Rattle.engine.specs.RunPageLaws.{page-turn, run-page}
 use Rattle.engine.specs.ImagePage.{Imaged, ImagesAlong, ImagePage}
 

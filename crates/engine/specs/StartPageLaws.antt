@@ -1,9 +1,9 @@
 -- The refusals 1 to 5 are exact: the proof of specs/StartPage.antt, and what is known past them. Assumes nothing.
 use mathlib.Core.Path.{_≡_, refl, sym, ap, subst, _∙_}
 use mathlib.Core.Logic.{⊎-elim}
-use mathlib.Core.Bool.{Bool, not}
+use mathlib.Core.Bool.{not}
 use mathlib.Core.List.{List}
-use Prim.Native.Nat.{ℕ, _%_, _≤_, _<_}
+use Prim.Native.Nat.{ℕ, _%_, _<_}
 use native.Mathlib.Omega.{arith}
 use native.Mathlib.Decide.{decLt}
 use lib.Dec.{eqb}
@@ -20,7 +20,7 @@ use Rattle.network.specs.OpenedSound.{accepted}
 use Rattle.network.specs.Opening.{open-5, open-0}
 use Rattle.network.specs.Listing.{Right, row-why, row-is, row-not, list-4, list-0}
 use Rattle.engine.specs.declared.Begun.{Begun}
-use Rattle.engine.specs.Start.{refusedAt, beginOf}
+use Rattle.engine.specs.Start.{beginOf}
 use Rattle.engine.specs.StartLaws.{begin-1, begin-2, begin-3, begin-4, begin-5, begin-0}
 use Rattle.engine.specs.StartFacts.{begin-by}
 use Rattle.engine.specs.StartPage.{RowsRight, RecordsSound, Lengths, Starts, all-right, state-length, table-length, events-length, wrong-row, unsound-record, StartPage}

@@ -2,11 +2,11 @@
 use mathlib.Core.Path.{_≡_, refl, sym, _∙_}
 use mathlib.Core.Logic.{_⊎_, inl, inr, _↔_, ⊎-elim}
 use mathlib.Core.Bool.{Bool, true, false, _&&_, _||_, not, cond}
-use Prim.Native.Nat.{ℕ, zero, suc, _<_}
+use Prim.Native.Nat.{ℕ, _<_}
 use native.Mathlib.Omega.{arith}
 use lib.Dec.{eqb}
 use borrow.Author.Tests.{eqb-true, eqb-false, eq-eqb}
-use Rattle.sets.specs.Bools.{either, clash, not-false, and-both, and-yes, or-left, or-right, or-yes, ne-eqb}
+use Rattle.sets.specs.Bools.{clash, and-both, and-yes, or-left, or-right, or-yes, ne-eqb}
 use Rattle.sets.specs.Set.{has, lowest}
 use Rattle.sets.specs.Members.{has-none, below-pow}
 use Rattle.sets.specs.Lowest.{lowest-has, none-empty}

@@ -17,8 +17,7 @@ use Rattle.network.specs.declared.Topic.{Topic}
 use Rattle.network.specs.declared.Message.{Message}
 use Rattle.network.specs.declared.Network.{Network}
 use Rattle.network.specs.declared.Table.{Table}
-use Rattle.network.specs.Network.{peer, topic, message, present, publishes, subscribed, linked, pending, saw, knows, topicOf, originOf}
-use Rattle.network.specs.Sound.{Sound}
+use Rattle.network.specs.Network.{peer, message, present, publishes, subscribed, linked, pending, saw, knows, topicOf, originOf}
 use Rattle.events.specs.declared.Joining.{Joining}
 use Rattle.events.specs.declared.Event.the-variants as kind
 use Rattle.floodnet.specs.Step.{refusal, effect, deliveriesOf}

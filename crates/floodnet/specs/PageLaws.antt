@@ -1,41 +1,37 @@
 -- The client's page of the events (specs/Page.antt) holds of every sound network and every table whose rows were accepted. Assumes nothing.
 use mathlib.Core.Path.{_≡_, refl, sym, ap, _∙_}
-use mathlib.Core.Logic.{_⊎_, inl, inr, _↔_, ⊎-elim, Iff·rfl, Iff·trans, Iff·and}
-use mathlib.Core.Bool.{Bool, true, false, _&&_, _||_, not}
+use mathlib.Core.Logic.{_⊎_, inl, inr, _↔_, Iff·rfl, Iff·trans, Iff·and}
+use mathlib.Core.Bool.{Bool, true, false, not}
 use mathlib.Core.List.{List}
-use Prim.Native.Nat.{ℕ, _≤_, _<_, _^_}
+use Prim.Native.Nat.{ℕ, _<_, _^_}
 use native.Mathlib.Omega.{arith}
-use native.Mathlib.Decide.{decLt}
 use lib.Dec.{eqb}
 use lib.ListN.{getD}
-use borrow.Author.Tests.{eqb-true}
-use Rattle.sets.specs.Bools.{clash, not-false, and-both, and-yes, or-yes}
+use Rattle.sets.specs.Bools.{clash, not-false, and-yes, or-yes}
 use Rattle.sets.specs.Set.{has, minus, Subset}
 use Rattle.sets.specs.Members.{has-none, has-minus}
 use Rattle.sets.specs.Bounds.{has-in}
 use Rattle.sets.specs.Subsets.{subset-of-minus, minus-of-subset}
 use Rattle.network.specs.declared.Peer.{Peer}
-use Rattle.network.specs.declared.Topic.{Topic}
 use Rattle.network.specs.declared.Message.{Message}
 use Rattle.network.specs.declared.Network.{Network}
 use Rattle.network.specs.declared.Table.{Table}
-use Rattle.network.specs.Network.{Rows, peer, message, pendingOf, present, publishes, pending, saw, topicOf, originOf}
+use Rattle.network.specs.Network.{Rows, peer, present, publishes, pending, saw, topicOf, originOf}
 use Rattle.network.specs.Sound.{Sound}
 use Rattle.events.specs.declared.Joining.{Joining}
 use Rattle.events.specs.declared.Event.the-variants as kind
-use Rattle.floodnet.specs.Produce.{holders, isNew, produced}
-use Rattle.floodnet.specs.Forward.{forwarded}
+use Rattle.floodnet.specs.Produce.{holders, isNew}
 use Rattle.floodnet.specs.Topics.{subscribedTo, unsubscribedFrom}
-use Rattle.floodnet.specs.Links.{left, joined}
-use Rattle.floodnet.specs.Refusals.{need, refusalProduce, refusalForward, refusalTopics, refusalLeave, refusalJoin}
+use Rattle.floodnet.specs.Links.{joined}
+use Rattle.floodnet.specs.Refusals.{refusalProduce, refusalForward, refusalTopics, refusalLeave, refusalJoin}
 use Rattle.floodnet.specs.Step.{refusal, effect, deliveriesOf}
 use Rattle.floodnet.specs.ProduceLaws.{has-holders, holders-lt, new-why, new-yes, produced-pending, produced-present, produced-publishes, produced-subscribed, produced-linked, produced-saw, produced-knows}
 use Rattle.floodnet.specs.ForwardLaws.{forwarded-saw, forwarded-pending, forwarded-present, forwarded-publishes, forwarded-subscribed, forwarded-linked, forwarded-knows, deliveries-sum}
 use Rattle.floodnet.specs.TopicsLaws.{SameButTopics, subscribed-rest, unsubscribed-rest, subscribed-more, knows-more, subscribed-less, knows-less}
 use Rattle.floodnet.specs.LeaveJoin.{present-left, publishes-left, subscribed-left, pending-left, saw-left, linked-left, knows-left, present-joined, publishes-joined, subscribed-joined, pending-joined, seen-joined, linked-joined, joined-sound}
-use Rattle.floodnet.specs.StepLaws.{forward-met, topics-met, join-met}
+use Rattle.floodnet.specs.StepLaws.{forward-met, join-met}
 use Rattle.floodnet.specs.Exactly.{three, four, by, yes-if, or-if, and-if, and3-if, not-if, no-if, yes-not, eq-if, ne-if, cond-if, need-is, need-on, need-not, need-last, empty-if, some-if}
-use Rattle.floodnet.specs.Page.{SkipPage, Produces, ProducePage, Forwards, ForwardPage, Subscribes, SubscribePage, Unsubscribes, UnsubscribePage, Leaves, LeavePage, Joins, JoinPage, FloodnetPage}
+use Rattle.floodnet.specs.Page.{SkipPage, ProducePage, ForwardPage, SubscribePage, UnsubscribePage, LeavePage, Joins, JoinPage, FloodnetPage}
 
 -- ---- the conditions, in observations
 

@@ -3,3 +3,4 @@ pub mod Commit
 pub mod Page
 pub mod CommitLaws
 pub mod ImageNet
+pub mod Unchanged

@@ -2,10 +2,10 @@
 use mathlib.Core.Path.{_≡_, refl, sym, ap, _∙_}
 use mathlib.Core.Bool.{Bool, true, false, _&&_, not}
 use mathlib.Core.List.{List, [], _∷_, _++_}
-use Prim.Native.Nat.{ℕ, zero, suc, _%_, _<_}
+use Prim.Native.Nat.{ℕ, zero, suc, _%_}
 use native.Mathlib.Omega.{arith}
 use lib.Dec.{eqb, ltb}
-use lib.ListN.{length, getD}
+use lib.ListN.{length}
 use borrow.Author.Tests.{eqb-true, ltb-true}
 use Rattle.sets.specs.Bools.{and-yes, clash}
 use Rattle.endian.specs.Le.{Bytes}
@@ -14,7 +14,7 @@ use Rattle.network.specs.declared.Network.{Network}
 use Rattle.network.specs.declared.Opened.{Opened}
 use Rattle.network.specs.Network.{peer, neighboursOf}
 use Rattle.network.specs.Sound.{Sound}
-use Rattle.network.specs.State.{openOf, opened, bytesOf, blankNet}
+use Rattle.network.specs.State.{openOf, bytesOf, blankNet}
 use Rattle.network.specs.Rows.{blankTable}
 use Rattle.network.specs.Trips.{write-read}
 use Rattle.events.specs.declared.Fields.{Fields}
@@ -23,10 +23,10 @@ use Rattle.broadcastnet.specs.Commit.{image, asNetwork, imageNet}
 use Rattle.drain.specs.Drain.{drainOf, quietOf}
 use Rattle.engine.specs.declared.Tally.{Tally}
 use Rattle.engine.specs.declared.Answer.{Answer}
-use Rattle.engine.specs.Run.{Ending, Final, runAll, written, runOf}
+use Rattle.engine.specs.Run.{Ending, Final, runAll, written}
 use Rattle.engine.specs.Draining.{drained, drainEndOf}
 use Rattle.engine.specs.Imaging.{imagedOf}
-use Rattle.engine.specs.FromBlank.{blankState, blankRows, run-from-blank, sound-from-blank, drain-with-blank, image-of-sound}
+use Rattle.engine.specs.FromBlank.{blankRows, run-from-blank, sound-from-blank, drain-with-blank, image-of-sound}
 use Rattle.cases.specs.Rows.{bytes, Row, answers, image-as, neighbours, drains, ran, Holds, Each}
 
 -- ---- the test

@@ -1,2 +1,3 @@
 pub mod Console
 pub mod ConsoleLaws
+pub mod Settled

@@ -1,6 +1,6 @@
 -- What the entry points make of zero bytes: "A blank network is 5,120 zero bytes", and a table of 256 zero bytes has all rows zero. A run, a drain
 -- and an image from there are those of the blank network and the blank table. Assumes nothing.
-use mathlib.Core.Path.{_≡_, refl, sym, ap, _∙_}
+use mathlib.Core.Path.{_≡_, refl}
 use mathlib.Core.List.{List}
 use Prim.Native.Nat.{ℕ, _/_, _%_}
 use lib.ListN.{length, replicate}
@@ -8,9 +8,8 @@ use Rattle.sets.specs.Least.{lowestOf}
 use Rattle.lists.specs.Tab.{tab}
 use Rattle.endian.specs.Le.{Bytes}
 use Rattle.network.specs.declared.Network.{Network}
-use Rattle.network.specs.declared.Opened.{Opened}
 use Rattle.network.specs.Sound.{Sound}
-use Rattle.network.specs.State.{openOf, opened, bytesOf, blankNet}
+use Rattle.network.specs.State.{bytesOf, blankNet}
 use Rattle.network.specs.Rows.{listOf, listed, blankTable, tableOf, badRow, rowRight}
 use Rattle.network.specs.Listing.{blank-rows}
 use Rattle.network.specs.OpenedSound.{blank-sound}

@@ -30,3 +30,6 @@ pub mod StartPageLaws
 pub mod RunPage
 pub mod RunPageLaws
 pub mod FromBlank
+pub mod ImagePage
+pub mod ImagePageLaws
+pub mod Settled

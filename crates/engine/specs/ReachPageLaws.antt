@@ -166,11 +166,7 @@ read-both : (s t : List ℕ) → beginOf s t 0 .number ≡ 0
 read-both s t =
     begin-by s t 0
     (λ (g : Begun). g .number ≡ 0 → (length t ≡ 256) × (listOf t .number ≡ 0) × (openOf s .number ≡ 0) × (g ≡ record { number = 0; place = 0; network = openOf s .network; table = listOf t .table }))
-    (λ z. absurd (omega arith))
-    (λ z. absurd (omega arith))
-    (λ z. absurd (omega arith))
-    (λ r z. absurd (omega arith))
-    (λ p z. absurd (omega arith))
+    (λ k p h z. absurd (h z))
     λ a b c d z. (b, c, d, refl)
 
 module _ (t : List ℕ) (e : length t ≡ 256) (f : listOf t .number ≡ 0) where

@@ -5,7 +5,7 @@
 use mathlib.Core.Path.{_≡_}
 use mathlib.Core.Logic.{_↔_}
 use mathlib.Core.List.{List}
-use Prim.Native.Nat.{ℕ, suc, _+_, _*_, _/_, _<_}
+use Prim.Native.Nat.{ℕ, suc, _+_, _*_, _/_, _≤_, _<_}
 use lib.ListN.{length, take}
 use Rattle.sets.specs.Set.{count}
 use Rattle.sets.specs.Sums.{sum}
@@ -57,6 +57,7 @@ pub record RunDone (s t ev : List ℕ) (old : Tally) (r : Answer) (s′ : List �
   -- each event before the accepted count was accepted, in the network that the ones before it left; the state holds the last of these networks
   pub each : (i : ℕ) → i < r .accepted → turnAt ev (tableIn t) (netIn s) i .number ≡ 0
   pub state : netIn s′ ≡ reached ev (tableIn t) (netIn s) (r .accepted)
+  pub within : r .accepted ≤ length ev / 16
   -- 0 is answered exactly if all were accepted; the place is then 0
   pub all : (r .number ≡ 0) ↔ (r .accepted ≡ length ev / 16)
   pub place : r .number ≡ 0 → r .place ≡ 0

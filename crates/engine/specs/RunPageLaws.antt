@@ -49,7 +49,7 @@ done-accepted : (b : Table) (m : Network) (e : Event) → refusal m b e ≡ 0
 unfolding turnOf turnedOf turned after ifAccepted
 done-accepted b m e h = (rw h, rw h)
 
-page-turn : (ev : List ℕ) (b : Table) (n : Network) (i : ℕ) → TurnPage ev b n i (reached ev b n i)
+pub page-turn : (ev : List ℕ) (b : Table) (n : Network) (i : ℕ) → TurnPage ev b n i (reached ev b n i)
 unfolding reached turnOf turnedOf readingOf
 page-turn ev b n i =
     let m : Network = reached ev b n i in
@@ -136,6 +136,7 @@ module _ (s t ev : List ℕ) (old : Tally) (hs : Bytes s) (he : Bytes ev) (z : b
         sound = rw held (keeps .sound start);
         each = along .each;
         state = held ∙ along .network;
+        within = omega (arith, ends .within);
         all = ((λ c. omega (arith, ends .all c .0)), λ e. ⊎-elim (eqb-true _ _) (λ c. absurd (omega (arith, ends .refused (eqb-false _ _ c) .0))) (either (eqb (f .answer .number) 0)));
         place = λ c. ends .all c .1;
         stops = λ c. (ends .refused c .1, omega (arith, ends .refused c .0), along .why c);

@@ -13,7 +13,7 @@ use Rattle.network.specs.declared.Table.{Table}
 use Rattle.events.specs.Event.{readAt}
 use Rattle.floodnet.specs.declared.Turned.{Turned}
 use Rattle.engine.specs.declared.Tally.{Tally}
-use Rattle.engine.specs.Run.{zeroTally, Final, stopsAt, allDone, runFrom, runAll}
+use Rattle.engine.specs.Run.{zeroTally, Final, runFrom, runAll}
 use Rattle.engine.specs.RunLaws.{outcomeAt, tallyAfter, run-ind}
 use Rattle.engine.specs.RunCounts.{tallied-deliveries}
 use Rattle.engine.specs.RunSound.{turn-delivers}

@@ -1,9 +1,9 @@
 -- The refusals 1 to 5 are exact: the proof of specs/StartPage.antt, and what is known past them. Assumes nothing.
 use mathlib.Core.Path.{_≡_, refl, sym, ap, subst, _∙_}
 use mathlib.Core.Logic.{⊎-elim}
-use mathlib.Core.Bool.{Bool, not}
+use mathlib.Core.Bool.{not}
 use mathlib.Core.List.{List}
-use Prim.Native.Nat.{ℕ, _%_, _≤_, _<_}
+use Prim.Native.Nat.{ℕ, _%_, _<_}
 use native.Mathlib.Omega.{arith}
 use native.Mathlib.Decide.{decLt}
 use lib.Dec.{eqb}
@@ -14,12 +14,13 @@ use Rattle.sets.specs.Least.{lowestOf-lt-holds, lowestOf-least, lowestOf-is, lo
 use Rattle.network.specs.declared.Opened.{Opened}
 use Rattle.network.specs.declared.Listed.{Listed}
 use Rattle.network.specs.Network.{peer}
-use Rattle.network.specs.State.{openOf, faultAt, unsoundAt}
+use Rattle.network.specs.State.{openOf, opened, faultAt, unsoundAt}
 use Rattle.network.specs.Rows.{rowRight, badRow, listOf}
+use Rattle.network.specs.OpenedSound.{accepted}
 use Rattle.network.specs.Opening.{open-5, open-0}
 use Rattle.network.specs.Listing.{Right, row-why, row-is, row-not, list-4, list-0}
 use Rattle.engine.specs.declared.Begun.{Begun}
-use Rattle.engine.specs.Start.{refusedAt, beginOf}
+use Rattle.engine.specs.Start.{beginOf}
 use Rattle.engine.specs.StartLaws.{begin-1, begin-2, begin-3, begin-4, begin-5, begin-0}
 use Rattle.engine.specs.StartFacts.{begin-by}
 use Rattle.engine.specs.StartPage.{RowsRight, RecordsSound, Lengths, Starts, all-right, state-length, table-length, events-length, wrong-row, unsound-record, StartPage}
@@ -157,6 +158,17 @@ module _ (s t : List ℕ) (events : ℕ) where
       (λ r z. absurd (omega arith))
       (λ p z. absurd (omega arith))
       λ a b c d z. (refl, refl)
+
+  -- the state is one that a reading accepts
+  pub begin-opens : beginOf s t events .number ≡ 0 → openOf s ≡ opened 0 0 (openOf s .network)
+  begin-opens =
+      begin-by s t events (λ (g : Begun). g .number ≡ 0 → openOf s ≡ opened 0 0 (openOf s .network))
+      (λ z. absurd (omega arith))
+      (λ z. absurd (omega arith))
+      (λ z. absurd (omega arith))
+      (λ r z. absurd (omega arith))
+      (λ p z. absurd (omega arith))
+      λ a b c d z. let o = accepted s d .is in o ∙ ap (λ (x : Opened). opened 0 0 (x .network)) (sym o)
 
 -- of the events only whether they are whole records matters
 pub begin-same : (s t : List ℕ) (a b : ℕ) → a % 16 ≡ 0 → b % 16 ≡ 0 → beginOf s t a ≡ beginOf s t b

@@ -8,7 +8,7 @@ use native.Mathlib.Omega.{arith}
 use lib.Dec.{eqb, ltb}
 use lib.ListN.{length, getD, length-replicate}
 use borrow.Author.Tests.{lt-ltb, le-ltb, eq-eqb, ltb-true, ltb-false, eqb-true}
-use Rattle.sets.specs.Bools.{ne-eqb, and-yes, and-both, not-no}
+use Rattle.sets.specs.Bools.{ne-eqb, and-yes, and-both, not-no, not-false}
 use Rattle.sets.specs.Least.{lowestOf-least}
 use Rattle.lists.specs.Tab.{length-tab, tab-below}
 use Rattle.network.specs.declared.Table.{Table}
@@ -38,6 +38,9 @@ row-why b r e =
 pub row-is : (b : List ℕ) (r : ℕ) → Right b r → true ≡ rowRight b r
 unfolding rowRight
 row-is b r h = sym (and-both (lt-ltb _ _ (h .topic)) (and-both (lt-ltb _ _ (h .origin)) (and-both (eq-eqb _ _ (h .third)) (eq-eqb _ _ (h .fourth)))))
+
+pub row-not : (b : List ℕ) (r : ℕ) → (Right b r → ⊥) → false ≡ rowRight b r
+row-not b r h = sym (not-false λ e. h (row-why b r e))
 
 -- the three answers
 pub list-2 : (b : List ℕ) → (length b ≡ 256 → ⊥) → listed 2 0 blankTable ≡ listOf b

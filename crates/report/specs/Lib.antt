@@ -4,3 +4,4 @@ pub mod Write
 pub mod Report
 pub mod ReportLaws
 pub mod Examples
+pub mod Settled

@@ -1,0 +1,119 @@
+-- The images along a run, on bytes: the proof of specs/ImagePage.antt. Assumes nothing.
+use mathlib.Core.Path.{_≡_, refl, sym, ap, subst, _∙_}
+use mathlib.Core.Logic.{⊎-elim}
+use mathlib.Core.List.{List}
+use Prim.Native.Nat.{ℕ, zero, suc, _/_, _≤_, _<_}
+use native.Mathlib.Omega.{arith}
+use lib.ListN.{length}
+use Rattle.endian.specs.Le.{Bytes}
+use Rattle.network.specs.declared.Network.{Network}
+use Rattle.network.specs.declared.Table.{Table}
+use Rattle.network.specs.declared.Opened.{Opened}
+use Rattle.network.specs.Network.{Rows}
+use Rattle.network.specs.Sound.{Sound}
+use Rattle.network.specs.State.{openOf, opened, bytesOf}
+use Rattle.network.specs.Listing.{listed-rows}
+use Rattle.network.specs.OpenedSound.{opened-sound}
+use Rattle.network.specs.Trips.{write-read}
+use Rattle.events.specs.declared.Event.{Event}
+use Rattle.events.specs.declared.Read.{Read}
+use Rattle.events.specs.declared.Read.the-variants.{Taken, End, Refused}
+use Rattle.events.specs.Event.{readAt}
+use Rattle.events.specs.Decoded.{Judged}
+use Rattle.events.specs.RoundTrip.{read-judged, read-fits}
+use Rattle.floodnet.specs.Step.{refusal, effect}
+use Rattle.broadcastnet.specs.Broadcast.{Step}
+use Rattle.broadcastnet.specs.Commit.{image, imageNet}
+use Rattle.broadcastnet.specs.ImageNet.{image-written, imageNet-sound}
+use Rattle.broadcastnet.specs.Page.{Row}
+use Rattle.broadcastnet.specs.Unchanged.{Unchanged, unchanged}
+use Rattle.broadcastnet.proofs.Refines.{image-step, one-step}
+use Rattle.engine.specs.declared.Tally.{Tally}
+use Rattle.engine.specs.declared.Answer.{Answer}
+use Rattle.engine.specs.Start.{beginOf}
+use Rattle.engine.specs.StartPageLaws.{begin-opens}
+use Rattle.engine.specs.Run.{runOf, Ends}
+use Rattle.engine.specs.RunSound.{reads-fit, turn-sound}
+use Rattle.engine.specs.RunReached.{reached, turnAt}
+use Rattle.engine.specs.Imaging.{imageAnswerOf, imagedOf}
+use Rattle.engine.specs.RunPage.{netIn, tableIn, RunDone}
+use Rattle.engine.specs.RunPageLaws.{page-turn, run-page}
+use Rattle.engine.specs.ImagePage.{Imaged, ImagesAlong, ImagePage}
+
+-- ---- the image of a state's bytes
+
+shown : (m : Network) → image (imageNet m) ≡ image m
+unfolding imageNet
+shown m = image-written (image m)
+
+pub imaged : (s : List ℕ) {n : Network} → openOf s ≡ opened 0 0 n → Sound n → Imaged s n
+unfolding imageAnswerOf imagedOf
+imaged s {n} o sound =
+    record {
+      answer = λ buffer l. rw (o, l);
+      bytes = written;
+      reads = back;
+      shows = λ buffer l. ap (λ (x : Opened). image (x .network)) (back buffer l) ∙ shown n;
+    }
+  where
+    written : (buffer : List ℕ) → length buffer ≡ 5120 → imagedOf s buffer ≡ bytesOf (imageNet n)
+    written buffer l = rw (o, l)
+
+    back : (buffer : List ℕ) → length buffer ≡ 5120 → openOf (imagedOf s buffer) ≡ opened 0 0 (imageNet n)
+    back buffer l = ap openOf (written buffer l) ∙ write-read (imageNet-sound sound)
+
+-- ---- along a run
+
+module _ (ev : List ℕ) (he : Bytes ev) (b : Table) (rows : Rows b) (n : Network) (start : Sound n) where
+  reached-sound : (i : ℕ) → Sound (reached ev b n i)
+  unfolding reached
+  reached-sound zero = start
+  reached-sound (suc i) = turn-sound (reached-sound i) rows (readAt ev i) (reads-fit ev he i)
+
+  module _ (accepted : ℕ) (within : accepted ≤ length ev / 16) (each : (i : ℕ) → i < accepted → turnAt ev b n i .number ≡ 0) where
+    -- an accepted record is an event
+    is-event : (i : ℕ) → i < accepted → (e : Event) × (readAt ev i ≡ Taken e)
+    unfolding Judged
+    is-event i l = first (readAt ev i) refl (read-judged ev i (omega arith))
+      where
+        first : (r : Read) → readAt ev i ≡ r → Judged r → (e : Event) × (readAt ev i ≡ Taken e)
+        first (Taken e) z j = (e, z)
+        first End z j = absurd j
+        first (Refused k) z j =
+            let h : turnAt ev b n i .number ≡ k = page-turn ev b n i .bytes k z in
+            absurd (⊎-elim (λ c. omega (arith, each i l)) (λ c. omega (arith, each i l)) j)
+
+    -- that was accepted in the network it met, and had its effect there
+    accepts : (i : ℕ) → i < accepted → (e : Event) → readAt ev i ≡ Taken e → refusal (reached ev b n i) b e ≡ 0
+    accepts i l e z = sym (page-turn ev b n i .event e z) ∙ each i l
+
+    next : (i : ℕ) → i < accepted → (e : Event) → readAt ev i ≡ Taken e → effect (reached ev b n i) b e ≡ reached ev b n (suc i)
+    next i l e z = sym (page-turn ev b n i .effect e z (accepts i l e z) .0)
+
+    pub images-along : ImagesAlong ev b (reached ev b n) accepted
+    images-along =
+        record {
+          events = is-event;
+          rows = λ i l e z.
+              subst (λ (o : Network). Row (reached ev b n i) o e) (next i l e z)
+              (image-step rows (reached ev b n i) (reached-sound i) e (read-fits ev i e he z) (accepts i l e z));
+          topics = λ i l e z. subst (λ (o : Network). Unchanged (reached ev b n i) o e) (next i l e z) (unchanged b (reached ev b n i) (reached-sound i) e);
+          steps = λ i l.
+              let x = is-event i l in
+              subst (λ (o : Network). Step b (image (reached ev b n i)) (image o)) (next i l (x .0) (x .1))
+              (one-step rows (reached ev b n i) (reached-sound i) (x .0) (read-fits ev i (x .0) he (x .1)) (accepts i l (x .0) (x .1)));
+        }
+
+-- THE THEOREM: every outcome of `relay_run` past the refusals 1 to 5 meets the page.
+pub image-page : (s t ev : List ℕ) (old : Tally) → Bytes s → Bytes ev → beginOf s t (length ev) .number ≡ 0
+    → (r : Answer) (s′ : List ℕ) (new : Tally) → Ends r s′ new (runOf s t ev old) → ImagePage s t ev r s′
+unfolding reached
+image-page s t ev old hs he z r s′ new e =
+    let d : RunDone s t ev old r s′ new = run-page s t ev old hs he r s′ new e .done z in
+    record {
+      first = refl;
+      along = images-along ev he (tableIn t) (listed-rows t) (netIn s) (opened-sound s hs) (r .accepted) (d .within) (d .each);
+      last = sym (d .state);
+      before = imaged s (begin-opens s t (length ev) z) (opened-sound s hs);
+      after = imaged s′ (d .reads) (d .sound);
+    }

@@ -152,22 +152,14 @@ module _ (s t : List ℕ) (events : ℕ) where
   pub begin-read : beginOf s t events .number ≡ 0 → (beginOf s t events .network ≡ openOf s .network) × (beginOf s t events .table ≡ listOf t .table)
   begin-read =
       begin-by s t events (λ (g : Begun). g .number ≡ 0 → (g .network ≡ openOf s .network) × (g .table ≡ listOf t .table))
-      (λ z. absurd (omega arith))
-      (λ z. absurd (omega arith))
-      (λ z. absurd (omega arith))
-      (λ r z. absurd (omega arith))
-      (λ p z. absurd (omega arith))
+      (λ k p h z. absurd (h z))
       λ a b c d z. (refl, refl)
 
   -- the state is one that a reading accepts
   pub begin-opens : beginOf s t events .number ≡ 0 → openOf s ≡ opened 0 0 (openOf s .network)
   begin-opens =
       begin-by s t events (λ (g : Begun). g .number ≡ 0 → openOf s ≡ opened 0 0 (openOf s .network))
-      (λ z. absurd (omega arith))
-      (λ z. absurd (omega arith))
-      (λ z. absurd (omega arith))
-      (λ r z. absurd (omega arith))
-      (λ p z. absurd (omega arith))
+      (λ k p h z. absurd (h z))
       λ a b c d z. let o = accepted s d .is in o ∙ ap (λ (x : Opened). opened 0 0 (x .network)) (sym o)
 
 -- of the events only whether they are whole records matters

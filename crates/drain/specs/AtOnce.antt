@@ -17,8 +17,8 @@ use borrow.Author.Tests.{eq-eqb, lt-ltb, le-ltb}
 use Rattle.sets.specs.Set.{has, union, meet, minus, only, when, puts, withIf, setOf, sift, lowest, digit, count}
 use Rattle.sets.specs.Sums.{sum}
 use Rattle.sets.specs.Bools.{clash, bool2, or-left, or-right, eqb-same, ne-eqb, below-suc}
-use Rattle.sets.specs.Members.{members, has-union, has-meet, has-minus, has-none, has-only, has-with, has-with-other, ext}
-use Rattle.sets.specs.Bounds.{has-out, union-lt, meet-lt, only-lt}
+use Rattle.sets.specs.Members.{members, has-meet, has-minus, has-none, has-only, has-with, has-with-other, ext}
+use Rattle.sets.specs.Bounds.{union-lt, meet-lt, only-lt}
 use Rattle.sets.specs.Algebra.{union-empty, union-assoc}
 use Rattle.sets.specs.Build.{has-puts, has-withIf, setOf-lt, has-setOf-out, has-setOf, is-setOf, setOf-has, fill-none, fill-yes, fill-no, has-sifted, sift-lt}
 use Rattle.sets.specs.Lowest.{lowest-has}
@@ -30,7 +30,7 @@ use Rattle.network.specs.declared.Network.{Network}
 use Rattle.network.specs.Network.{peer, message}
 use Rattle.floodnet.specs.Forward.{moved, receivers, given, forwarded}
 use Rattle.floodnet.specs.Produce.{holders}
-use Rattle.floodnet.specs.SoundBase.{has-set, has-edit}
+use Rattle.floodnet.specs.Places.{has-set, has-edit}
 use Rattle.floodnet.specs.View.{fwd}
 use Rattle.floodnet.specs.CodeForward.{table, withMessages}
 use Rattle.floodnet.specs.CodeVisit.{edit-store, edit-then, Along, along-more}

@@ -24,7 +24,7 @@ use Rattle.network.specs.declared.Network.{Network}
 use Rattle.network.specs.declared.Table.{Table}
 use Rattle.network.specs.Network.{peer, message, pendingOf, pending, Shaped, Rows}
 use Rattle.network.specs.Sound.{Sound}
-use Rattle.floodnet.specs.SoundBase.{has-beyond}
+use Rattle.floodnet.specs.Places.{has-beyond}
 use Rattle.floodnet.specs.View.{view, fwd}
 use Rattle.floodnet.specs.ViewLaws.{network-machine}
 use Rattle.drain.specs.Drain.{drainOf, quietOf}

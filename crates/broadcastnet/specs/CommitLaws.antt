@@ -20,7 +20,7 @@ use Rattle.network.specs.declared.Peer.{Peer}
 use Rattle.network.specs.declared.Message.{Message}
 use Rattle.network.specs.declared.Network.{Network}
 use Rattle.network.specs.Network.{mk, peer, message, pending, saw, seenOf, Shaped}
-use Rattle.floodnet.specs.SoundBase.{has-beyond, has-edit, has-edit-with}
+use Rattle.floodnet.specs.Places.{has-beyond, has-edit, has-edit-with}
 use Rattle.broadcastnet.specs.Broadcast.{Broadcastnet, sawIn, broadcastPartial}
 use Rattle.broadcastnet.specs.Commit.{somewhere, whoSaw, together, underway, without, image, asNetwork, imageNet}
 

@@ -25,7 +25,7 @@ use Rattle.network.specs.declared.Network.{Network}
 use Rattle.network.specs.Network.{peer, message}
 use Rattle.floodnet.specs.Forward.{moved, receivers, given, forwarded}
 use Rattle.floodnet.specs.Produce.{holders}
-use Rattle.floodnet.specs.SoundBase.{has-set, has-edit}
+use Rattle.floodnet.specs.Places.{has-set, has-edit}
 use Rattle.floodnet.specs.View.{fwd}
 use Rattle.floodnet.specs.CodeForward.{table, withMessages}
 use Rattle.drain.specs.Pairs.{pairsOf}

@@ -27,7 +27,7 @@ use Rattle.network.specs.SoundLaws.{pending-present}
 use Rattle.floodnet.specs.Forward.{forwarded}
 use Rattle.floodnet.specs.ForwardLaws.{forwarded-sound}
 use Rattle.floodnet.specs.Refusals.{need, refusalForward}
-use Rattle.floodnet.specs.SoundBase.{has-beyond}
+use Rattle.floodnet.specs.Places.{has-beyond}
 use Rattle.floodnet.specs.View.{view, fwd}
 use Rattle.floodnet.specs.ViewLaws.{view-linked}
 use Rattle.drain.specs.Drain.{quietOf}

@@ -1,16 +1,14 @@
 -- What the loop of a run keeps: the rest of the run, from here, ends as the whole run does; and the counts are small. Assumes nothing.
 use mathlib.Core.Path.{_≡_, refl, sym, ap, subst, _∙_}
-use mathlib.Core.Bool.{Bool, true, false, cond}
 use mathlib.Core.List.{List}
 use Prim.Native.Nat.{ℕ, zero, suc, _+_, _-_, _*_, _/_, _^_, _≤_, _<_}
 use native.Mathlib.Omega.{arith}
-use lib.Dec.{eqb}
 use Rattle.network.specs.declared.Network.{Network}
 use Rattle.network.specs.declared.Table.{Table}
 use Rattle.events.specs.declared.kind.Kind.{Kind}
 use Rattle.events.specs.declared.kind.Kind.the-variants.{Skip, Produce, Forward, Subscribe, Unsubscribe, Leave, Join}
 use Rattle.engine.specs.declared.Tally.{Tally}
-use Rattle.engine.specs.Run.{tally, zeroTally, Room, talliedOf, Final, stopsAt, allDone, runFrom}
+use Rattle.engine.specs.Run.{zeroTally, Room, talliedOf, Final, stopsAt, allDone, runFrom}
 use Rattle.engine.specs.RunLaws.{outcomeAt, tallyAfter, run-on, run-stops}
 
 pub record Going (ev : List ℕ) (b : Table) (count place : ℕ) (n : Network) (t : Tally) (f : Final) : Type 0 where

@@ -1,13 +1,9 @@
 -- What a run counts (document 01): "Produced and forwards are the accepted events of those kinds". Assumes nothing.
 use mathlib.Core.Path.{_≡_, refl, sym, ap, _∙_}
 use mathlib.Core.Logic.{_⊎_, inl, inr}
-use mathlib.Core.Bool.{Bool, true, false, cond}
 use mathlib.Core.List.{List}
 use Prim.Native.Nat.{ℕ, zero, suc, _+_, _-_, _*_, _≤_, _<_}
 use native.Mathlib.Omega.{arith}
-use lib.Dec.{eqb}
-use borrow.Author.Tests.{eqb-true, eqb-false}
-use Rattle.sets.specs.Bools.{either, clash, ne-eqb}
 use Rattle.sets.specs.Set.{digit, count}
 use Rattle.sets.specs.Sums.{sum}
 use Rattle.sets.specs.Counts.{count-ext, count-first}

@@ -3,13 +3,9 @@
 --   "Pending pairs at the end = pending pairs at the start + produced + deliveries - forwards."
 use mathlib.Core.Path.{_≡_, refl, sym, ap, _∙_}
 use mathlib.Core.Logic.{_⊎_, inl, inr}
-use mathlib.Core.Bool.{Bool, true, false, cond}
 use mathlib.Core.List.{List}
 use Prim.Native.Nat.{ℕ, zero, suc, _+_, _-_, _*_, _≤_, _<_}
 use native.Mathlib.Omega.{arith}
-use lib.Dec.{eqb}
-use borrow.Author.Tests.{eqb-true, eqb-false, eq-eqb}
-use Rattle.sets.specs.Bools.{clash}
 use Rattle.sets.specs.Set.{digit}
 use Rattle.endian.specs.Le.{Bytes}
 use Rattle.network.specs.declared.Network.{Network}

@@ -5,9 +5,8 @@ use mathlib.Core.List.{List}
 use Prim.Native.Nat.{ℕ, _/_, _%_, _<_}
 use lib.Dec.{eqb}
 use lib.ListN.{getD}
-use borrow.Author.Tests.{eqb-true, eq-eqb}
 use Rattle.sets.specs.Set.{has, union, minus, only, when, puts, strikes, withIf, sift, lowest}
-use Rattle.sets.specs.Bools.{bool2, bool-ext}
+use Rattle.sets.specs.Bools.{bool2}
 use Rattle.sets.specs.Members.{members, has-union, has-none, has-only, ext}
 use Rattle.sets.specs.Build.{has-withIf}
 use Rattle.sets.specs.Lowest.{lowest-has, lowest-lt}
@@ -15,13 +14,10 @@ use Rattle.sets.specs.Visits.{setOf-none, visit-step, sift-step}
 use Rattle.lists.specs.Edit.{edit}
 use Rattle.network.specs.declared.Peer.{Peer}
 use Rattle.floodnet.specs.Topics.{noted}
+use Rattle.floodnet.specs.Places.{eqb-sym}
 use Rattle.floodnet.specs.CodeVisit.{Along, along-more, edit-then}
 use Rattle.floodnet.specs.CodeWhen.{picks, strikes-twice, Picking, picking-edit}
 use Rattle.floodnet.specs.CodeArrays.{inside}
-
--- the test of equality is symmetric
-eqb-swap : (a b : ℕ) → eqb a b ≡ eqb b a
-eqb-swap a b = bool-ext (λ e. eq-eqb b a (sym (eqb-true a b e))) (λ e. eq-eqb a b (sym (eqb-true b a e)))
 
 -- the row of one peer more
 inside-more : (q topics t i : ℕ) → inside (union t (only q)) topics i ≡ inside t topics i || inside (only q) topics i
@@ -52,7 +48,7 @@ rows-none i = has-none (i / 32)
 -- the row of one peer more
 rows-more : (q t i : ℕ) → rows (union t (only q)) i ≡ rows t i || eqb (i / 32) q
 unfolding rows
-rows-more q t i = has-union t (only q) (i / 32) ∙ ap (λ (b : Bool). has t (i / 32) || b) (has-only q (i / 32) ∙ eqb-swap q (i / 32))
+rows-more q t i = has-union t (only q) (i / 32) ∙ ap (λ (b : Bool). has t (i / 32) || b) (has-only q (i / 32) ∙ eqb-sym q (i / 32))
 
 -- a turn of `drop_all`
 pub dropping-row : {s left left′ : ℕ} {q : Peer} {l₀ l l′ : List ℕ} (p : ℕ) → Picking s left rows (strikes p) l₀ l → 0 < left → q .0 ≡ lowest 32 left
@@ -121,7 +117,7 @@ learning {s} {left} {left′} {q} {l₀} {l} {l′} p subs a b eq el e =
         ∙ sift-step 32 left s q (λ j. has (getD subs j 0) i) small (a .within) mine
 
     step : (i x : ℕ) → note i (learnt p subs t i x) ≡ learnt p subs (union t (only q)) i x
-    step i x = ap (λ (c : Bool). withIf (c && has (getD subs q 0) (i % 32)) q (learnt p subs t i x)) (has-only p (i / 32) ∙ eqb-swap p (i / 32)) ∙ go (eqb (i / 32) p)
+    step i x = ap (λ (c : Bool). withIf (c && has (getD subs q 0) (i % 32)) q (learnt p subs t i x)) (has-only p (i / 32) ∙ eqb-sym p (i / 32)) ∙ go (eqb (i / 32) p)
       where
         go : (c : Bool) → withIf (c && has (getD subs q 0) (i % 32)) q (when c (puts (sift 32 t (λ j. has (getD subs j 0) (i % 32)))) x)
             ≡ when c (puts (sift 32 (union t (only q)) (λ j. has (getD subs j 0) (i % 32)))) x

@@ -8,25 +8,24 @@ use native.Mathlib.Decide.{decLt}
 use lib.Dec.{eqb}
 use lib.ListN.{length, length-set}
 use borrow.Author.Tests.{eqb-true}
-use Rattle.sets.specs.Set.{has, union, minus, only, digit}
+use Rattle.sets.specs.Set.{has, only, digit}
 use Rattle.sets.specs.Sums.{sum, sum-same}
 use Rattle.sets.specs.Bools.{and-yes, or-yes, not-yes, eqb-same}
 use Rattle.sets.specs.Members.{has-minus}
 use Rattle.sets.specs.Bounds.{has-out, union-lt, minus-lt, only-lt}
 use Rattle.sets.specs.Build.{withIf-lt}
-use Rattle.sets.specs.Sizes.{size-le}
 use Rattle.sets.specs.Counts.{size-sum}
-use Rattle.lists.specs.Edit.{length-edit, edit-below}
 use Rattle.network.specs.declared.Peer.{Peer}
 use Rattle.network.specs.declared.Topic.{Topic}
 use Rattle.network.specs.declared.Message.{Message}
 use Rattle.network.specs.declared.Network.{Network}
 use Rattle.network.specs.declared.Table.{Table}
-use Rattle.network.specs.Network.{peer, pendingOf, seenOf, knownOf, present, publishes, subscribed, linked, pending, saw, knows, topicOf, Shaped, Rows}
+use Rattle.network.specs.Network.{peer, pendingOf, seenOf, knownOf, present, pending, saw, knows, topicOf, Shaped, Rows}
 use Rattle.network.specs.Sound.{Sound}
 use Rattle.network.specs.SoundLaws.{pending-peer, pending-message, pending-present, saw-present, knows-present}
 use Rattle.floodnet.specs.Forward.{moved, receivers, given, forwarded, deliveries}
-use Rattle.floodnet.specs.SoundBase.{has-set-with, has-set-without, set-below, has-edit-with, holding-shaped, holding-sound}
+use Rattle.floodnet.specs.Places.{has-set-with, has-set-without, has-edit-with}
+use Rattle.floodnet.specs.Keeping.{stored, edited, shaped-pending, shaped-seen, holding-sound}
 use Rattle.floodnet.specs.ProduceLaws.{has-holders}
 
 -- ---- m moves from pending to seen at p
@@ -47,10 +46,9 @@ moved-saw {n} s p m h q k = has-set-with (n .seen) (p .0) (m .0) (q .0) (k .0) (
 pub moved-shaped : {n : Network} → Shaped n → (p : Peer) (m : Message) → m .0 < 64 → Shaped (moved n p m)
 unfolding moved
 moved-shaped {n} s p m h =
-    holding-shaped _ _ s (length-set (n .pending) (p .0) (minus (pendingOf n p) (only (m .0))) ∙ s .pending)
-    (length-set (n .seen) (p .0) (union (seenOf n p) (only (m .0))) ∙ s .seen)
-    (set-below (n .pending) (p .0) _ (2 ^ 64) (minus-lt 64 (pendingOf n p) (only (m .0)) (s .pending-fit (p .0))) (s .pending-fit))
-    (set-below (n .seen) (p .0) _ (2 ^ 64) (union-lt 64 (seenOf n p) (only (m .0)) (s .seen-fit (p .0)) (only-lt 64 (m .0) h)) (s .seen-fit))
+    let less = minus-lt 64 (pendingOf n p) (only (m .0)) (s .pending-fit (p .0)) in
+    let more = union-lt 64 (seenOf n p) (only (m .0)) (s .seen-fit (p .0)) (only-lt 64 (m .0) h) in
+    shaped-seen (shaped-pending s (stored (n .pending) (p .0) _ (s .pending) (s .pending-fit) less)) (stored (n .seen) (p .0) _ (s .seen) (s .seen-fit) more)
 
 -- ---- who receives
 
@@ -85,10 +83,6 @@ has-receivers {n} s b p m h q = go (decLt (q .0) 32)
         let o : 32 ≤ q .0 = omega arith in
         has-out 32 (receivers n b p m) (q .0) (receivers-lt s b p m) o ∙ sym (rw (has-out 32 (knownOf n p (topicOf b m)) (q .0) (s .known-fit _) o))
 
--- Not p itself.
-pub receivers-self : {n : Network} → Shaped n → (b : Table) (p : Peer) (m : Message) → p .0 < 32 → has (receivers n b p m) (p .0) ≡ false
-receivers-self {n} s b p m h = has-receivers s b p m h p ∙ rw (eqb-same (p .0)) (and-false (knows n p (topicOf b m) p))
-
 -- Where m is pending at p, it is enough to say: the known subscribers, unless m is pending or seen there.
 pub receivers-pending : {n : Network} → Shaped n → (b : Table) (p : Peer) (m : Message) → pending n p m ≡ true → (q : Peer)
     → has (receivers n b p m) (q .0) ≡ knows n p (topicOf b m) q && (not (pending n q m) && not (saw n q m))
@@ -112,9 +106,7 @@ given-pending n r m e h q k = has-edit-with r (m .0) (n .pending) (q .0) (k .0) 
 pub given-shaped : {n : Network} → Shaped n → (r : ℕ) (m : Message) → m .0 < 64 → Shaped (given n r m)
 unfolding given
 given-shaped {n} s r m h =
-    holding-shaped _ (n .seen) s (length-edit _ (n .pending) ∙ s .pending) (s .seen)
-    (edit-below _ (n .pending) (2 ^ 64) (omega arith) λ i l. withIf-lt 64 (has r i) (m .0) _ h (s .pending-fit i))
-    (s .seen-fit)
+    shaped-pending s (edited _ (n .pending) (s .pending) (s .pending-fit) λ i. withIf-lt 64 (has r i) (m .0) _ h (s .pending-fit i))
 
 -- ---- forward
 
@@ -161,18 +153,6 @@ forwarded-pending {n} s b p m h q k =
 pub forwarded-present : (n : Network) (b : Table) (p : Peer) (m : Message) (q : Peer) → present (forwarded n b p m) q ≡ present n q
 unfolding forwarded given moved
 forwarded-present n b p m q = refl
-
-pub forwarded-publishes : (n : Network) (b : Table) (p : Peer) (m : Message) (q : Peer) (t : Topic) → publishes (forwarded n b p m) q t ≡ publishes n q t
-unfolding forwarded given moved
-forwarded-publishes n b p m q t = refl
-
-pub forwarded-subscribed : (n : Network) (b : Table) (p : Peer) (m : Message) (q : Peer) (t : Topic) → subscribed (forwarded n b p m) q t ≡ subscribed n q t
-unfolding forwarded given moved
-forwarded-subscribed n b p m q t = refl
-
-pub forwarded-linked : (n : Network) (b : Table) (p : Peer) (m : Message) (q r : Peer) → linked (forwarded n b p m) q r ≡ linked n q r
-unfolding forwarded given moved
-forwarded-linked n b p m q r = refl
 
 pub forwarded-knows : (n : Network) (b : Table) (p : Peer) (m : Message) (q : Peer) (t : Topic) (r : Peer) → knows (forwarded n b p m) q t r ≡ knows n q t r
 unfolding forwarded given moved
@@ -228,11 +208,6 @@ forwarded-sound {n} s {b} rows p m a =
     apart q k (inr x) = x .0
 
 -- ---- the number of deliveries
-
--- There are at most 32.
-pub deliveries-le : {n : Network} → Shaped n → (b : Table) (p : Peer) (m : Message) → deliveries n b p m ≤ 32
-unfolding deliveries
-deliveries-le {n} s b p m = size-le 32 (receivers n b p m) (receivers-lt s b p m)
 
 -- One for each known subscriber that does not hold m.
 pub deliveries-sum : {n : Network} → Shaped n → (b : Table) (p : Peer) (m : Message) → pending n p m ≡ true

@@ -15,7 +15,7 @@ use Rattle.network.specs.declared.Network.{Network}
 use Rattle.network.specs.Network.{neighboursOf, present, publishes, subscribed, linked, pending, saw, knows}
 use Rattle.network.specs.Sound.{Sound, Empty}
 use Rattle.floodnet.specs.Links.{linkUp, linkDown, placed, left, joined}
-use Rattle.floodnet.specs.Places.{linked-turn}
+use Rattle.floodnet.specs.Keeping.{linked-turn}
 use Rattle.floodnet.specs.LinksLaws.{between, linkUp-sound, linkDown-sound, linked-up-all, linked-down-all}
 use Rattle.floodnet.specs.Records.{present-cleared, publishes-cleared, subscribed-cleared, linked-cleared, pending-cleared, saw-cleared, cleared-sound, cleared-absent, present-placed, publishes-placed, subscribed-placed, placed-shaped, placed-sound}
 

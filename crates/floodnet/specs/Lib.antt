@@ -4,14 +4,14 @@ pub mod Topics
 pub mod Links
 pub mod Refusals
 pub mod Step
-pub mod SoundBase
+pub mod Places
+pub mod Keeping
 pub mod ProduceLaws
 pub mod ForwardLaws
 pub mod View
 pub mod ViewLaws
 pub mod ViewCounts
 pub mod ViewFloods
-pub mod Places
 pub mod TopicsLaws
 pub mod LinksLaws
 pub mod Records

@@ -9,7 +9,7 @@ use native.Mathlib.Omega.{arith}
 use native.Mathlib.Decide.{decLt}
 use borrow.Author.Tests.{eqb-true}
 use lib.Dec.{eqb}
-use lib.ListN.{length, getD}
+use lib.ListN.{getD}
 use Rattle.sets.specs.Set.{has, minus, only, when, puts, strikes, withIf, sift, Subset}
 use Rattle.sets.specs.Bools.{clash, not-false, and-yes, and-no, or-yes, ne-eqb, and-eqb}
 use Rattle.sets.specs.Members.{has-none}
@@ -17,7 +17,7 @@ use Rattle.sets.specs.Bounds.{has-out}
 use Rattle.sets.specs.Build.{has-puts, has-strikes, has-withIf, has-withoutIf, puts-lt, strikes-lt, withIf-lt, has-sifted, sift-lt}
 use Rattle.sets.specs.Lowest.{none-empty}
 use Rattle.sets.specs.Subsets.{subset-of-minus}
-use Rattle.lists.specs.Edit.{length-edit, getD-edit, getD-edit-out, edit-below}
+use Rattle.lists.specs.Edit.{getD-edit, getD-edit-out}
 use Rattle.network.specs.declared.Peer.{Peer}
 use Rattle.network.specs.declared.Topic.{Topic}
 use Rattle.network.specs.declared.Network.{Network}
@@ -25,8 +25,8 @@ use Rattle.network.specs.Network.{withNeighbours, withKnown, peer, topic, subsO
 use Rattle.network.specs.Sound.{Sound}
 use Rattle.network.specs.SoundLaws.{linked-peer}
 use Rattle.floodnet.specs.Links.{linkUp, linkDown}
-use Rattle.floodnet.specs.SoundBase.{eqb-sym}
-use Rattle.floodnet.specs.Places.{edit-spot, linked-turn}
+use Rattle.floodnet.specs.Places.{eqb-sym, edit-spot}
+use Rattle.floodnet.specs.Keeping.{edited, shaped-neighbours, shaped-known, linked-turn}
 
 -- One of a and c is p, and the other is of `who`: the link is one of those that are recorded or forgotten.
 abbrev pub between : Peer → ℕ → Peer → Peer → Bool
@@ -153,26 +153,6 @@ linked-down-all {n} s p who a c = go (decLt (a .0) 32)
 abbrev relink : Network → List ℕ → List ℕ → Network
 relink n neighbours known = withKnown (withNeighbours n neighbours) known
 
--- It keeps the shape, if they have it.
-relink-shaped : {n : Network} (neighbours known : List ℕ) → Shaped n → length neighbours ≡ 32 → length known ≡ 1024
-    → ((i : ℕ) → getD neighbours i 0 < 2 ^ 32) → ((i : ℕ) → getD known i 0 < 2 ^ 32) → Shaped (relink n neighbours known)
-relink-shaped neighbours known s ln lk fn fk =
-    record {
-      present = s .present;
-      pubs = s .pubs;
-      subs = s .subs;
-      neighbours = ln;
-      pending = s .pending;
-      seen = s .seen;
-      known = lk;
-      pubs-fit = s .pubs-fit;
-      subs-fit = s .subs-fit;
-      neighbours-fit = fn;
-      pending-fit = s .pending-fit;
-      seen-fit = s .seen-fit;
-      known-fit = fk;
-    }
-
 -- It is sound, if the links are between two present peers and listed on both sides, and the known subscribers are the neighbours that subscribe.
 relink-sound : {n : Network} (neighbours known : List ℕ) → Sound n → (let m = relink n neighbours known in
     Shaped m → ((a : Peer) → linked m a a ≡ false) → ((a c : Peer) → linked m a c ≡ true → present n c ≡ true) → ((a c : Peer) → linked m a c ≡ linked m c a)
@@ -206,17 +186,17 @@ relink-sound {n} neighbours known s shape own near turn law =
 pub linkUp-shaped : {n : Network} → Shaped n → (p : Peer) (who : ℕ) → p .0 < 32 → who < 2 ^ 32 → Shaped (linkUp n p who)
 unfolding linkUp
 linkUp-shaped {n} s p who hp hw =
-    relink-shaped _ _ s (length-edit _ (n .neighbours) ∙ s .neighbours) (length-edit _ (n .known) ∙ s .known)
-    (edit-below _ (n .neighbours) (2 ^ 32) (omega arith) λ i h. withIf-lt 32 _ (p .0) _ hp (puts-lt 32 _ who _ hw (s .neighbours-fit i)))
-    (edit-below _ (n .known) (2 ^ 32) (omega arith) λ i h. puts-lt 32 _ _ _ (sift-lt 32 who _) (withIf-lt 32 _ (p .0) _ hp (s .known-fit i)))
+    shaped-known
+    (shaped-neighbours s (edited _ (n .neighbours) (s .neighbours) (s .neighbours-fit) λ i. withIf-lt 32 _ (p .0) _ hp (puts-lt 32 _ who _ hw (s .neighbours-fit i))))
+    (edited _ (n .known) (s .known) (s .known-fit) λ i. puts-lt 32 _ _ _ (sift-lt 32 who _) (withIf-lt 32 _ (p .0) _ hp (s .known-fit i)))
 
 -- So does forgetting.
 pub linkDown-shaped : {n : Network} → Shaped n → (p : Peer) (who : ℕ) → Shaped (linkDown n p who)
 unfolding linkDown
 linkDown-shaped {n} s p who =
-    relink-shaped _ _ s (length-edit _ (n .neighbours) ∙ s .neighbours) (length-edit _ (n .known) ∙ s .known)
-    (edit-below _ (n .neighbours) (2 ^ 32) (omega arith) λ i h. strikes-lt 32 _ (only (p .0)) _ (strikes-lt 32 _ who _ (s .neighbours-fit i)))
-    (edit-below _ (n .known) (2 ^ 32) (omega arith) λ i h. strikes-lt 32 _ who _ (strikes-lt 32 _ (only (p .0)) _ (s .known-fit i)))
+    shaped-known
+    (shaped-neighbours s (edited _ (n .neighbours) (s .neighbours) (s .neighbours-fit) λ i. strikes-lt 32 _ (only (p .0)) _ (strikes-lt 32 _ who _ (s .neighbours-fit i))))
+    (edited _ (n .known) (s .known) (s .known-fit) λ i. strikes-lt 32 _ who _ (strikes-lt 32 _ (only (p .0)) _ (s .known-fit i)))
 
 -- Links of p, which is present, with others that are present.
 pub linkUp-sound : {n : Network} → Sound n → (p : Peer) (who : ℕ) → present n p ≡ true → p .0 < 32 → has who (p .0) ≡ false → minus who (n .present) ≡ 0 → who < 2 ^ 32

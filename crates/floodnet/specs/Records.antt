@@ -23,8 +23,8 @@ use Rattle.network.specs.declared.Network.{Network}
 use Rattle.network.specs.Network.{withAll, topic, neighboursOf, knownOf, present, publishes, subscribed, linked, pending, saw, knows, Shaped}
 use Rattle.network.specs.Sound.{Sound, Empty}
 use Rattle.floodnet.specs.Links.{cleared, placed}
-use Rattle.floodnet.specs.SoundBase.{eqb-sym, has-set, set-below}
-use Rattle.floodnet.specs.Places.{zeroed, has-zeroed, edit-spot}
+use Rattle.floodnet.specs.Places.{eqb-sym, has-set, set-below, zeroed, has-zeroed, edit-spot}
+use Rattle.floodnet.specs.Keeping.{stored, shaped-present, shaped-pubs, shaped-subs}
 
 -- ---- "record becomes zero"
 
@@ -177,37 +177,12 @@ pub publishes-placed : {n : Network} → Shaped n → (p : Peer) (subs pubs : �
 unfolding placed
 publishes-placed {n} s p subs pubs hp q t = has-set (n .pubs) (p .0) pubs (q .0) (t .0) (omega (arith, s .pubs))
 
--- What it leaves: the links, the known subscribers, the messages pending and seen.
-pub record SameButPlace (n m : Network) : Type 0 where
-  pub neighbours : m .neighbours ≡ n .neighbours
-  pub pending : m .pending ≡ n .pending
-  pub seen : m .seen ≡ n .seen
-  pub known : m .known ≡ n .known
-
--- A record that is made leaves these.
-pub placed-rest : (n : Network) (p : Peer) (subs pubs : ℕ) → SameButPlace n (placed n p subs pubs)
-unfolding placed
-placed-rest n p subs pubs = record { neighbours = refl; pending = refl; seen = refl; known = refl }
-
 -- The shape stays.
 pub placed-shaped : {n : Network} → Shaped n → (p : Peer) (subs pubs : ℕ) → p .0 < 32 → subs < 2 ^ 32 → pubs < 2 ^ 32 → Shaped (placed n p subs pubs)
 unfolding placed
 placed-shaped {n} s p subs pubs hp hs hb =
-    record {
-      present = union-lt 32 (n .present) (only (p .0)) (s .present) (only-lt 32 (p .0) hp);
-      pubs = length-set (n .pubs) (p .0) pubs ∙ s .pubs;
-      subs = length-set (n .subs) (p .0) subs ∙ s .subs;
-      neighbours = s .neighbours;
-      pending = s .pending;
-      seen = s .seen;
-      known = s .known;
-      pubs-fit = set-below (n .pubs) (p .0) pubs (2 ^ 32) hb (s .pubs-fit);
-      subs-fit = set-below (n .subs) (p .0) subs (2 ^ 32) hs (s .subs-fit);
-      neighbours-fit = s .neighbours-fit;
-      pending-fit = s .pending-fit;
-      seen-fit = s .seen-fit;
-      known-fit = s .known-fit;
-    }
+    let here = union-lt 32 (n .present) (only (p .0)) (s .present) (only-lt 32 (p .0) hp) in
+    shaped-subs (shaped-pubs (shaped-present s here) (stored (n .pubs) (p .0) pubs (s .pubs) (s .pubs-fit) hb)) (stored (n .subs) (p .0) subs (s .subs) (s .subs-fit) hs)
 
 -- A sound network stays sound where p was absent: nobody lists p.
 pub placed-sound : {n : Network} → Sound n → (p : Peer) (subs pubs : ℕ) → present n p ≡ false → p .0 < 32 → subs < 2 ^ 32 → pubs < 2 ^ 32 → Sound (placed n p subs pubs)

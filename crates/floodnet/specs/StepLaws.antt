@@ -1,21 +1,20 @@
 -- Laws of a step: "refused exactly when its conditions fail" opened up, "Soundness holds after every accepted event", and what an
 -- event does to the pairs pending. Assumes nothing.
-use mathlib.Core.Path.{_≡_, refl, sym, ap, subst, _∙_}
-use mathlib.Core.Bool.{Bool, true, false, not, cond}
-use Prim.Native.Nat.{ℕ, zero, suc, _+_, _^_, _<_}
+use mathlib.Core.Path.{_≡_, refl, sym, ap, _∙_}
+use mathlib.Core.Bool.{Bool, true, false, not}
+use Prim.Native.Nat.{ℕ, zero, suc, _+_}
 use native.Mathlib.Omega.{arith}
 use lib.Dec.{eqb}
 use lib.ListN.{set}
 use lib.Seq.{set-getD}
-use borrow.Author.Tests.{eq-eqb, eqb-true, eqb-false}
-use Rattle.sets.specs.Bools.{clash, not-yes}
-use Rattle.sets.specs.Set.{has, minus, size, digit}
-use Rattle.sets.specs.Sums.{sum}
+use borrow.Author.Tests.{eqb-true}
+use Rattle.sets.specs.Bools.{not-yes}
+use Rattle.sets.specs.Set.{has, minus, digit}
 use Rattle.network.specs.declared.Peer.{Peer}
 use Rattle.network.specs.declared.Message.{Message}
 use Rattle.network.specs.declared.Network.{Network}
 use Rattle.network.specs.declared.Table.{Table}
-use Rattle.network.specs.Network.{peer, present, pending, publishes, pendingOf, topicOf, originOf, Shaped, Rows}
+use Rattle.network.specs.Network.{present, pending, publishes, pendingOf, topicOf, originOf, Rows}
 use Rattle.network.specs.Sound.{Sound}
 use Rattle.events.specs.declared.Event.{Event}
 use Rattle.events.specs.declared.Event.the-variants.{Skip, Produce, Forward, Subscribe, Unsubscribe, Leave, Join}
@@ -25,7 +24,6 @@ use Rattle.events.specs.Fits.{EventFits}
 use Rattle.floodnet.specs.Produce.{isNew}
 use Rattle.floodnet.specs.Links.{left, linkDown, cleared}
 use Rattle.floodnet.specs.Topics.{subscribedTo, unsubscribedFrom}
-use Rattle.floodnet.specs.Forward.{deliveries}
 use Rattle.floodnet.specs.Refusals.{need, refusalProduce, refusalForward, refusalTopics, refusalLeave, refusalJoin}
 use Rattle.floodnet.specs.Step.{refusal, effect, ifAccepted, after, deliveriesOf}
 use Rattle.floodnet.specs.ProduceLaws.{produced-sound, new-why}

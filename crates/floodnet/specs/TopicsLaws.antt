@@ -8,7 +8,7 @@ use Prim.Native.Nat.{ℕ, _/_, _%_, _^_, _<_}
 use native.Mathlib.Omega.{arith}
 use borrow.Author.Tests.{eqb-true}
 use lib.Dec.{eqb}
-use lib.ListN.{length, getD, set, length-set}
+use lib.ListN.{getD, set}
 use lib.Seq.{getD-set-other, set-getD}
 use Rattle.sets.specs.Set.{has, union, minus, only, when, puts, strikes, withIf}
 use Rattle.sets.specs.Bools.{either, clash, and-both, and-yes, or-right, and-eqb}
@@ -17,7 +17,7 @@ use Rattle.sets.specs.Bounds.{union-lt, minus-lt}
 use Rattle.sets.specs.Build.{has-withIf, has-withoutIf, withIf-lt, strikes-lt}
 use Rattle.sets.specs.Lowest.{none-empty}
 use Rattle.sets.specs.Sizes.{with-member, without-stranger}
-use Rattle.lists.specs.Edit.{length-edit, edit-below, edit-none}
+use Rattle.lists.specs.Edit.{edit-none}
 use Rattle.network.specs.declared.Peer.{Peer}
 use Rattle.network.specs.declared.Topic.{Topic}
 use Rattle.network.specs.declared.Network.{Network}
@@ -25,8 +25,8 @@ use Rattle.network.specs.Network.{withSubs, withKnown, peer, topic, subsOf, nei
 use Rattle.network.specs.Sound.{Sound, Empty}
 use Rattle.network.specs.SoundLaws.{linked-other}
 use Rattle.floodnet.specs.Topics.{noted, struck, subscribedTo, unsubscribedFrom}
-use Rattle.floodnet.specs.SoundBase.{eqb-sym, set-below}
-use Rattle.floodnet.specs.Places.{getD-set, spot-of, edit-spot, linked-turn}
+use Rattle.floodnet.specs.Places.{eqb-sym, getD-set, spot-of, edit-spot}
+use Rattle.floodnet.specs.Keeping.{stored, edited, shaped-subs, shaped-known, linked-turn}
 
 -- ---- the observations, one law each
 
@@ -94,26 +94,6 @@ knows-less {n} s p topics q t c hq ht =
 abbrev retopic : Network → Peer → ℕ → List ℕ → Network
 retopic n p v known = withKnown (withSubs n (set (n .subs) (p .0) v)) known
 
--- It keeps the shape, if they have it.
-retopic-shaped : {n : Network} (p : Peer) (v : ℕ) (known : List ℕ) → Shaped n → v < 2 ^ 32 → length known ≡ 1024
-    → ((i : ℕ) → getD known i 0 < 2 ^ 32) → Shaped (retopic n p v known)
-retopic-shaped {n} p v known s hv l fit =
-    record {
-      present = s .present;
-      pubs = s .pubs;
-      subs = length-set (n .subs) (p .0) v ∙ s .subs;
-      neighbours = s .neighbours;
-      pending = s .pending;
-      seen = s .seen;
-      known = l;
-      pubs-fit = s .pubs-fit;
-      subs-fit = set-below (n .subs) (p .0) v (2 ^ 32) hv (s .subs-fit);
-      neighbours-fit = s .neighbours-fit;
-      pending-fit = s .pending-fit;
-      seen-fit = s .seen-fit;
-      known-fit = fit;
-    }
-
 -- It is sound, if p is present and the known subscribers are the neighbours that subscribe.
 retopic-sound : {n : Network} (p : Peer) (v : ℕ) (known : List ℕ) → Sound n → present n p ≡ true → Shaped (retopic n p v known)
     → ((q : Peer) (t : Topic) (c : Peer) → q .0 < 32 → t .0 < 32 → knows (retopic n p v known) q t c ≡ linked n q c && subscribed (retopic n p v known) c t)
@@ -153,15 +133,15 @@ retopic-sound {n} p v known s here shape law =
 pub subscribed-shaped : {n : Network} → Shaped n → (p : Peer) (topics : ℕ) → p .0 < 32 → topics < 2 ^ 32 → Shaped (subscribedTo n p topics)
 unfolding subscribedTo noted
 subscribed-shaped {n} s p topics hp ht =
-    retopic-shaped p _ _ s (union-lt 32 (subsOf n p) topics (s .subs-fit (p .0)) ht) (length-edit _ (n .known) ∙ s .known)
-    (edit-below _ (n .known) (2 ^ 32) (omega arith) (λ i h. withIf-lt 32 _ (p .0) (getD (n .known) i 0) hp (s .known-fit i)))
+    shaped-known (shaped-subs s (stored (n .subs) (p .0) _ (s .subs) (s .subs-fit) (union-lt 32 (subsOf n p) topics (s .subs-fit (p .0)) ht)))
+    (edited _ (n .known) (s .known) (s .known-fit) λ i. withIf-lt 32 _ (p .0) (getD (n .known) i 0) hp (s .known-fit i))
 
 -- So does an unsubscribe.
 pub unsubscribed-shaped : {n : Network} → Shaped n → (p : Peer) (topics : ℕ) → Shaped (unsubscribedFrom n p topics)
 unfolding unsubscribedFrom struck
 unsubscribed-shaped {n} s p topics =
-    retopic-shaped p _ _ s (minus-lt 32 (subsOf n p) topics (s .subs-fit (p .0))) (length-edit _ (n .known) ∙ s .known)
-    (edit-below _ (n .known) (2 ^ 32) (omega arith) (λ i h. strikes-lt 32 _ (only (p .0)) (getD (n .known) i 0) (s .known-fit i)))
+    shaped-known (shaped-subs s (stored (n .subs) (p .0) _ (s .subs) (s .subs-fit) (minus-lt 32 (subsOf n p) topics (s .subs-fit (p .0)))))
+    (edited _ (n .known) (s .known) (s .known-fit) λ i. strikes-lt 32 _ (only (p .0)) (getD (n .known) i 0) (s .known-fit i))
 
 -- q lists p exactly where p lists q; and where c is p, it lists c.
 turned : {n : Network} → Sound n → (p q c : Peer) → linked n p q && eqb (p .0) (c .0) ≡ linked n q c && eqb (p .0) (c .0)

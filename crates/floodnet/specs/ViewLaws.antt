@@ -10,7 +10,6 @@ use lib.Seq.{ext-getD}
 use Rattle.sets.specs.Set.{has}
 use Rattle.sets.specs.Bools.{clash, not-false}
 use Rattle.sets.specs.Members.{ext-below, has-none}
-use Rattle.sets.specs.Lowest.{none-empty}
 use Rattle.flooding.specs.Network as flooding
 use Rattle.flooding.specs.Network.{Net, Quiet, link, forward}
 use Rattle.flooding.specs.Machine.{Machine}
@@ -18,35 +17,13 @@ use Rattle.network.specs.declared.Peer.{Peer}
 use Rattle.network.specs.declared.Topic.{Topic}
 use Rattle.network.specs.declared.Network.{Network}
 use Rattle.network.specs.declared.Table.{Table}
-use Rattle.network.specs.Network.{withPending, withSeen, peer, topic, message, pendingOf, spot, present, subscribed, linked, pending, saw, knows, topicOf, Shaped, Rows}
+use Rattle.network.specs.Network.{withPending, withSeen, peer, topic, message, pendingOf, spot, present, subscribed, linked, pending, knows, topicOf, Shaped, Rows}
 use Rattle.network.specs.Sound.{Sound}
 use Rattle.network.specs.SoundLaws.{present-peer, pending-peer, pending-message, pending-present, saw-message, saw-present, knows-present}
 use Rattle.floodnet.specs.Forward.{forwarded, given, moved}
-use Rattle.floodnet.specs.SoundBase.{has-beyond}
+use Rattle.floodnet.specs.Places.{has-beyond}
 use Rattle.floodnet.specs.ForwardLaws.{forwarded-present, forwarded-knows, forwarded-pending, forwarded-saw, forwarded-sound}
 use Rattle.floodnet.specs.View.{view, fwd, rest}
-
--- ---- the view, one observation at a time
-
-pub view-topic : (b : Table) (n : Network) (m : ℕ) → (view b n) .topic m ≡ (topicOf b (message m)) .0
-unfolding view
-view-topic b n m = refl
-
-pub view-present : (b : Table) (n : Network) (p : ℕ) → (view b n) .present p ≡ present n (peer p)
-unfolding view
-view-present b n p = refl
-
-pub view-pending : (b : Table) (n : Network) (p m : ℕ) → (view b n) .pending p m ≡ pending n (peer p) (message m)
-unfolding view
-view-pending b n p m = refl
-
-pub view-seen : (b : Table) (n : Network) (p m : ℕ) → (view b n) .seen p m ≡ saw n (peer p) (message m)
-unfolding view
-view-seen b n p m = refl
-
-pub view-link : (b : Table) (n : Network) (m p q : ℕ) → link (view b n) m p q ≡ knows n (peer p) (topicOf b (message m)) (peer q)
-unfolding view
-view-link b n m p q = refl
 
 -- A link, in the client's words: q is a neighbour of p, and subscribed to m's topic.
 pub view-linked : {n : Network} → Sound n → {b : Table} → Rows b → (m p q : ℕ)
@@ -61,12 +38,7 @@ view-linked {n} s {b} rows m p q = go (decLt p 32)
         let u : length (n .neighbours) ≤ p = omega (arith, s .shaped .neighbours) in
         has-beyond (n .known) (p * 32 + getD (b .topics) m 0) q o ∙ sym (rw (has-beyond (n .neighbours) p q u))
 
--- Nothing is pending: every peer's set is empty.
-pub quiet-empty : (b : Table) (n : Network) → Quiet (view b n) → (p : Peer) → pendingOf n p ≡ 0
-unfolding view
-quiet-empty b n h p = none-empty (pendingOf n p) (h (p .0))
-
--- And back.
+-- Where every peer's set of pending messages is empty, nothing is pending.
 pub empty-quiet : {n : Network} (b : Table) → Shaped n → ((p : Peer) → p .0 < 32 → pendingOf n p ≡ 0) → Quiet (view b n)
 unfolding view
 empty-quiet {n} b s h p m =

@@ -88,7 +88,7 @@ module _ (ev : List ℕ) (he : Bytes ev) (b : Table) (rows : Rows b) (n : Networ
     accepts i l e z = sym (page-turn ev b n i .event e z) ∙ each i l
 
     next : (i : ℕ) → i < accepted → (e : Event) → readAt ev i ≡ Taken e → effect (reached ev b n i) b e ≡ reached ev b n (suc i)
-    next i l e z = sym (page-turn ev b n i .effect e z (accepts i l e z) .0)
+    next i l e z = sym (page-turn ev b n i .does e z (accepts i l e z) .0)
 
     pub images-along : ImagesAlong ev b (reached ev b n) accepted
     images-along =

@@ -79,7 +79,7 @@ pub record TurnPage (ev : List ℕ) (b : Table) (n : Network) (i : ℕ) (m : Net
   -- an event is refused by the number of the first of its conditions that fails, 0 if none does (floodnet's specs/Page.antt)
   pub event : (e : Event) → readAt ev i ≡ Taken e → turnAt ev b n i .number ≡ refusal m b e
   -- an accepted event does what its kind does, and makes as many deliveries as that
-  pub effect : (e : Event) → readAt ev i ≡ Taken e → refusal m b e ≡ 0 → (reached ev b n (suc i) ≡ effect m b e) × (turnAt ev b n i .deliveries ≡ deliveriesOf m b e)
+  pub does : (e : Event) → readAt ev i ≡ Taken e → refusal m b e ≡ 0 → (reached ev b n (suc i) ≡ effect m b e) × (turnAt ev b n i .deliveries ≡ deliveriesOf m b e)
 
 pub record RunPage (s t ev : List ℕ) (old : Tally) (r : Answer) (s′ : List ℕ) (new : Tally) : Type 0 where
   pub refused : (beginOf s t (length ev) .number ≡ 0 → ⊥) → RunRefused s t ev old r s′ new

@@ -53,7 +53,7 @@ page-turn ev b n i =
     record {
       bytes = λ k z. ap (λ (r : Read). turnOf b m r .turned .number) z;
       event = λ e z. ap (λ (r : Read). turnOf b m r .turned .number) z ∙ turned-number (refusal m b e) (kindOf e) (deliveriesOf m b e);
-      effect = λ e z h.
+      does = λ e z h.
           (ap (λ (r : Read). turnOf b m r .network) z ∙ done-accepted b m e h .0, ap (λ (r : Read). turnOf b m r .turned .deliveries) z ∙ done-accepted b m e h .1);
     }
 

@@ -2,7 +2,7 @@
 use mathlib.Core.Path.{_≡_, refl, sym, ap, subst, _∙_}
 use mathlib.Core.Logic.{⊎-elim}
 use mathlib.Core.List.{List}
-use Prim.Native.Nat.{ℕ, zero, suc, _/_, _≤_, _<_}
+use Prim.Native.Nat.{ℕ, suc, _/_, _≤_, _<_}
 use native.Mathlib.Omega.{arith}
 use lib.ListN.{length}
 use Rattle.endian.specs.Le.{Bytes}
@@ -33,8 +33,7 @@ use Rattle.engine.specs.declared.Answer.{Answer}
 use Rattle.engine.specs.Start.{beginOf}
 use Rattle.engine.specs.StartPageLaws.{begin-opens}
 use Rattle.engine.specs.Run.{runOf, Ends}
-use Rattle.engine.specs.RunSound.{reads-fit, turn-sound}
-use Rattle.engine.specs.RunReached.{reached, turnAt}
+use Rattle.engine.specs.RunReached.{reached, turnAt, reached-sound}
 use Rattle.engine.specs.Imaging.{imageAnswerOf, imagedOf}
 use Rattle.engine.specs.RunPage.{netIn, tableIn, RunDone}
 use Rattle.engine.specs.RunPageLaws.{page-turn, run-page}
@@ -65,10 +64,8 @@ imaged s {n} o sound =
 -- ---- along a run
 
 module _ (ev : List ℕ) (he : Bytes ev) (b : Table) (rows : Rows b) (n : Network) (start : Sound n) where
-  reached-sound : (i : ℕ) → Sound (reached ev b n i)
-  unfolding reached
-  reached-sound zero = start
-  reached-sound (suc i) = turn-sound (reached-sound i) rows (readAt ev i) (reads-fit ev he i)
+  sound-at : (i : ℕ) → Sound (reached ev b n i)
+  sound-at = reached-sound ev he rows start
 
   module _ (accepted : ℕ) (within : accepted ≤ length ev / 16) (each : (i : ℕ) → i < accepted → turnAt ev b n i .number ≡ 0) where
     -- an accepted record is an event
@@ -88,7 +85,7 @@ module _ (ev : List ℕ) (he : Bytes ev) (b : Table) (rows : Rows b) (n : Networ
     accepts i l e z = sym (page-turn ev b n i .event e z) ∙ each i l
 
     next : (i : ℕ) → i < accepted → (e : Event) → readAt ev i ≡ Taken e → effect (reached ev b n i) b e ≡ reached ev b n (suc i)
-    next i l e z = sym (page-turn ev b n i .effect e z (accepts i l e z) .0)
+    next i l e z = sym (page-turn ev b n i .does e z (accepts i l e z) .0)
 
     pub images-along : ImagesAlong ev b (reached ev b n) accepted
     images-along =
@@ -96,12 +93,12 @@ module _ (ev : List ℕ) (he : Bytes ev) (b : Table) (rows : Rows b) (n : Networ
           events = is-event;
           rows = λ i l e z.
               subst (λ (o : Network). Row (reached ev b n i) o e) (next i l e z)
-              (image-step rows (reached ev b n i) (reached-sound i) e (read-fits ev i e he z) (accepts i l e z));
-          topics = λ i l e z. subst (λ (o : Network). Unchanged (reached ev b n i) o e) (next i l e z) (unchanged b (reached ev b n i) (reached-sound i) e);
+              (image-step rows (reached ev b n i) (sound-at i) e (read-fits ev i e he z) (accepts i l e z));
+          topics = λ i l e z. subst (λ (o : Network). Unchanged (reached ev b n i) o e) (next i l e z) (unchanged b (reached ev b n i) (sound-at i) e);
           steps = λ i l.
               let x = is-event i l in
               subst (λ (o : Network). Step b (image (reached ev b n i)) (image o)) (next i l (x .0) (x .1))
-              (one-step rows (reached ev b n i) (reached-sound i) (x .0) (read-fits ev i (x .0) he (x .1)) (accepts i l (x .0) (x .1)));
+              (one-step rows (reached ev b n i) (sound-at i) (x .0) (read-fits ev i (x .0) he (x .1)) (accepts i l (x .0) (x .1)));
         }
 
 -- THE THEOREM: every outcome of `relay_run` past the refusals 1 to 5 meets the page.

@@ -33,3 +33,4 @@ pub mod FromBlank
 pub mod ImagePage
 pub mod ImagePageLaws
 pub mod Settled
+pub mod UntouchedPage

@@ -20,6 +20,7 @@ use Rattle.events.specs.declared.kind.Kind.{Kind}
 use Rattle.events.specs.Event.{readAt}
 use Rattle.events.specs.Kind.{alike}
 use Rattle.floodnet.specs.Step.{refusal, effect, deliveriesOf}
+use Rattle.floodnet.specs.Page.{FloodnetPage}
 use Rattle.floodnet.specs.View.{pairs}
 use Rattle.engine.specs.declared.Tally.{Tally}
 use Rattle.engine.specs.declared.Answer.{Answer}
@@ -81,9 +82,17 @@ pub record TurnPage (ev : List ℕ) (b : Table) (n : Network) (i : ℕ) (m : Net
   -- an event is refused by the number of the first of its conditions that fails, 0 if none does (floodnet's specs/Page.antt)
   pub event : (e : Event) → readAt ev i ≡ Taken e → turnAt ev b n i .number ≡ refusal m b e
   -- an accepted event does what its kind does, and makes as many deliveries as that
-  pub effect : (e : Event) → readAt ev i ≡ Taken e → refusal m b e ≡ 0 → (reached ev b n (suc i) ≡ effect m b e) × (turnAt ev b n i .deliveries ≡ deliveriesOf m b e)
+  pub does : (e : Event) → readAt ev i ≡ Taken e → refusal m b e ≡ 0 → (reached ev b n (suc i) ≡ effect m b e) × (turnAt ev b n i .deliveries ≡ deliveriesOf m b e)
+
+-- b, n: the table and the network that were read; every network on the way is sound, and one of which floodnet's page speaks
+pub record AlongPage (ev : List ℕ) (b : Table) (n : Network) : Type 0 where
+  pub turn : (i : ℕ) → TurnPage ev b n i (reached ev b n i)
+  -- "Soundness holds after every accepted event"
+  pub sound : (i : ℕ) → Sound (reached ev b n i)
+  -- demand 2: each of the seven events is refused there exactly when its conditions fail, and does there what its record says
+  pub events : (i : ℕ) → FloodnetPage (reached ev b n i) b
 
 pub record RunPage (s t ev : List ℕ) (old : Tally) (r : Answer) (s′ : List ℕ) (new : Tally) : Type 0 where
   pub refused : (beginOf s t (length ev) .number ≡ 0 → ⊥) → RunRefused s t ev old r s′ new
   pub done : beginOf s t (length ev) .number ≡ 0 → RunDone s t ev old r s′ new
-  pub turn : (i : ℕ) → TurnPage ev (tableIn t) (netIn s) i (reached ev (tableIn t) (netIn s) i)
+  pub along : AlongPage ev (tableIn t) (netIn s)

@@ -17,6 +17,8 @@ use Rattle.network.specs.declared.Table.{Table}
 use Rattle.network.specs.declared.Opened.{Opened}
 use Rattle.network.specs.Sound.{Sound}
 use Rattle.network.specs.State.{openOf, opened, bytesOf}
+use Rattle.network.specs.Listing.{listed-rows}
+use Rattle.network.specs.OpenedSound.{opened-sound}
 use Rattle.network.specs.Trips.{write-read}
 use Rattle.events.specs.declared.Event.{Event}
 use Rattle.events.specs.declared.Read.{Read}
@@ -25,6 +27,7 @@ use Rattle.events.specs.declared.kind.Kind.{Kind}
 use Rattle.events.specs.Event.{readingOf}
 use Rattle.events.specs.Kind.{kindOf, alike}
 use Rattle.floodnet.specs.Step.{refusal, effect, ifAccepted, after, deliveriesOf, turned, turnedOf}
+use Rattle.floodnet.specs.PageLaws.{floodnet-page}
 use Rattle.engine.specs.declared.Tally.{Tally}
 use Rattle.engine.specs.declared.Answer.{Answer}
 use Rattle.engine.specs.Start.{beginOf}
@@ -35,8 +38,8 @@ use Rattle.engine.specs.RunStops.{Stops, run-refused}
 use Rattle.engine.specs.RunCounts.{kindAt, kinds, Counts, run-counts}
 use Rattle.engine.specs.RunSound.{Keeps, run-keeps}
 use Rattle.engine.specs.RunBefore.{refused-after}
-use Rattle.engine.specs.RunReached.{reached, Along, run-along}
-use Rattle.engine.specs.RunPage.{netIn, tableIn, RunRefused, RunDone, TurnPage, RunPage}
+use Rattle.engine.specs.RunReached.{reached, Along, run-along, reached-sound}
+use Rattle.engine.specs.RunPage.{netIn, tableIn, RunRefused, RunDone, TurnPage, AlongPage, RunPage}
 
 -- the record at a place
 turned-number : (k : ℕ) (kind : Kind) (d : ℕ) → turned k kind d .number ≡ k
@@ -57,9 +60,15 @@ page-turn ev b n i =
       unknown = λ z. ap (λ (r : Read). turnOf b m r .turned .number) z;
       unfit = λ z. ap (λ (r : Read). turnOf b m r .turned .number) z;
       event = λ e z. ap (λ (r : Read). turnOf b m r .turned .number) z ∙ turned-number (refusal m b e) (kindOf e) (deliveriesOf m b e);
-      effect = λ e z h.
+      does = λ e z h.
           (ap (λ (r : Read). turnOf b m r .network) z ∙ done-accepted b m e h .0, ap (λ (r : Read). turnOf b m r .turned .deliveries) z ∙ done-accepted b m e h .1);
     }
+
+-- every place of a run
+page-along : (s t ev : List ℕ) → Bytes s → Bytes ev → AlongPage ev (tableIn t) (netIn s)
+page-along s t ev hs he =
+    let sound : (i : ℕ) → Sound (reached ev (tableIn t) (netIn s) i) = reached-sound ev he (listed-rows t) (opened-sound s hs) in
+    record { turn = page-turn ev (tableIn t) (netIn s); sound = sound; events = λ i. floodnet-page (sound i) (listed-rows t) }
 
 -- refused before any event
 page-refused : (s t ev : List ℕ) (old : Tally) → (beginOf s t (length ev) .number ≡ 0 → ⊥)
@@ -154,5 +163,5 @@ run-page s t ev old hs he r s′ new e =
     (record {
       refused = page-refused s t ev old;
       done = λ z. rw (is s t ev old hs he z) (page-done s t ev old hs he z);
-      turn = page-turn ev (tableIn t) (netIn s);
+      along = page-along s t ev hs he;
     })

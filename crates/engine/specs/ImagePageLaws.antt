@@ -1,6 +1,5 @@
 -- The images along a run, on bytes: the proof of specs/ImagePage.antt. Assumes nothing.
 use mathlib.Core.Path.{_≡_, refl, sym, ap, subst, _∙_}
-use mathlib.Core.Logic.{⊎-elim}
 use mathlib.Core.List.{List}
 use Prim.Native.Nat.{ℕ, suc, _/_, _≤_, _<_}
 use native.Mathlib.Omega.{arith}
@@ -17,10 +16,10 @@ use Rattle.network.specs.OpenedSound.{opened-sound}
 use Rattle.network.specs.Trips.{write-read}
 use Rattle.events.specs.declared.Event.{Event}
 use Rattle.events.specs.declared.Read.{Read}
-use Rattle.events.specs.declared.Read.the-variants.{Taken, End, Refused}
+use Rattle.events.specs.declared.Read.the-variants.{Taken, End, Unknown, Unfit}
 use Rattle.events.specs.Event.{readAt}
-use Rattle.events.specs.Decoded.{Judged}
-use Rattle.events.specs.RoundTrip.{read-judged, read-fits}
+use Rattle.events.specs.ReadingLaws.{never-ended}
+use Rattle.events.specs.RoundTrip.{read-fits}
 use Rattle.floodnet.specs.Step.{refusal, effect}
 use Rattle.broadcastnet.specs.Broadcast.{Step}
 use Rattle.broadcastnet.specs.Commit.{image, imageNet}
@@ -70,15 +69,13 @@ module _ (ev : List ℕ) (he : Bytes ev) (b : Table) (rows : Rows b) (n : Networ
   module _ (accepted : ℕ) (within : accepted ≤ length ev / 16) (each : (i : ℕ) → i < accepted → turnAt ev b n i .number ≡ 0) where
     -- an accepted record is an event
     is-event : (i : ℕ) → i < accepted → (e : Event) × (readAt ev i ≡ Taken e)
-    unfolding Judged
-    is-event i l = first (readAt ev i) refl (read-judged ev i (omega arith))
+    is-event i l = first (readAt ev i) refl
       where
-        first : (r : Read) → readAt ev i ≡ r → Judged r → (e : Event) × (readAt ev i ≡ Taken e)
-        first (Taken e) z j = (e, z)
-        first End z j = absurd j
-        first (Refused k) z j =
-            let h : turnAt ev b n i .number ≡ k = page-turn ev b n i .bytes k z in
-            absurd (⊎-elim (λ c. omega (arith, each i l)) (λ c. omega (arith, each i l)) j)
+        first : (r : Read) → readAt ev i ≡ r → (e : Event) × (readAt ev i ≡ Taken e)
+        first (Taken e) z = (e, z)
+        first End z = absurd (never-ended ev i (omega arith) z)
+        first Unknown z = absurd (omega (arith, each i l, page-turn ev b n i .unknown z))
+        first Unfit z = absurd (omega (arith, each i l, page-turn ev b n i .unfit z))
 
     -- that was accepted in the network it met, and had its effect there
     accepts : (i : ℕ) → i < accepted → (e : Event) → readAt ev i ≡ Taken e → refusal (reached ev b n i) b e ≡ 0

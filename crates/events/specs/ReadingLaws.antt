@@ -1,11 +1,13 @@
 -- 01's number and values fix the case: a promise through `readingOf` says which case was answered, and every reading of bytes is
 -- a case's. Assumes nothing.
-use Prim.Native.Nat.{ℕ, _/_}
+use Prim.Native.Nat.{ℕ, _/_, _<_}
 use mathlib.Core.Path.{_≡_, refl, sym, ap, _∙_}
 use mathlib.Core.Bool.{Bool, true, false, cond}
 use mathlib.Core.List.{List}
 use lib.Dec.{ltb, eqb}
 use lib.ListN.{length}
+use borrow.Author.Tests.{lt-ltb}
+use Rattle.sets.specs.Bools.{clash}
 use Rattle.events.specs.declared.Fields.{Fields}
 use Rattle.events.specs.declared.Event.{Event}
 use Rattle.events.specs.declared.Read.{Read}
@@ -75,3 +77,26 @@ reads-as l place e h = rw h
 pub reading-taken : (l : List ℕ) (place : ℕ) (e : Event) → readAt l place ≡ Taken e → readingAt l place ≡ taken e
 unfolding readingOf
 reading-taken l place e h = sym (reading-at l place) ∙ ap readingOf h
+
+-- Within the bytes there is a record, whatever it holds.
+found-cond : (b : Bool) {x y : Reading} → x .found ≡ true → y .found ≡ true → cond b x y .found ≡ true
+found-cond true h k = h
+found-cond false h k = k
+
+found-seven : (b : Bool) (e : Event) → orSeven b e .found ≡ true
+unfolding orSeven
+found-seven true e = refl
+found-seven false e = refl
+
+found-fields : (f : Fields) → decodeOf f .found ≡ true
+unfolding decodeOf
+found-fields f = kind 0 _ _ (kind 1 _ _ (kind 2 _ _ (kind 3 _ _ (kind 4 _ _ (kind 5 _ _ (kind 6 _ _ refl))))))
+  where
+    kind : (code : ℕ) (b : Bool) (e : Event) {y : Reading} → y .found ≡ true → cond (eqb (f .code) code) (orSeven b e) y .found ≡ true
+    kind code b e k = found-cond (eqb (f .code) code) (found-seven b e) k
+
+pub never-ended : (l : List ℕ) (place : ℕ) → place < length l / 16 → readAt l place ≡ End → ⊥
+unfolding readingAt readingOf
+never-ended l place h e =
+    let there : readingAt l place .found ≡ true = rw (lt-ltb place (length l / 16) h) (found-fields _) in
+    clash there (ap (λ (x : Reading). x .found) (sym (reading-at l place) ∙ ap readingOf e))

@@ -106,7 +106,10 @@ both-is n p t b =
     to : ℕ → Bool
     to q = has (getD (n .subs) q 0) t
 
+pub same-is : (n : Network) (p : Peer) {subscribers : List ℕ} → subscribers ≡ subscribersOf (n .subs) → all 32 (knownAt (n .known) subscribers (neighboursOf n p) p) ≡ knownRight n p
+unfolding knownRight
+same-is n p e = rw e (all-same 32 _ _ λ t b. ap (eqb (knownOf n p (topic t))) (both-is n p t b))
+
 pub known-is : (n : Network) (p : Peer) {subscribers : List ℕ} → subscribers ≡ subscribersOf (n .subs) → eqb (rowKnown (n .known) subscribers (neighboursOf n p) p) 32 ≡ knownRight n p
-unfolding rowKnown knownRight
-known-is n p {subscribers} e =
-    lowestOf-is-all 32 (knownAt (n .known) subscribers (neighboursOf n p) p) ∙ rw e (all-same 32 _ _ λ t b. ap (eqb (knownOf n p (topic t))) (both-is n p t b))
+unfolding rowKnown
+known-is n p {subscribers} e = lowestOf-is-all 32 (knownAt (n .known) subscribers (neighboursOf n p) p) ∙ same-is n p e

@@ -3,11 +3,12 @@ use borrow.Author.Needs.{needs}
 use mathlib.Core.Path.{_≡_, sym, ap, _∙_}
 use mathlib.Core.Bool.{true, not}
 use borrow.Author.Tests.{eq-eqb, ne-eqb}
+use Rattle.sets.specs.Bools.{not-yes, not-no}
 use Rattle.network.specs.declared.Network.{Network}
 use Rattle.network.specs.Network.{withPresent, withSubs, withNeighbours, withPending, withSeen, withKnown}
 use Rattle.network.specs.Rules.{ownRight, nearRight, backRight, knownRight, apartRight}
 use Rattle.network.specs.Faults.{fault-3, fault-4, fault-5, fault-6, fault-7, fault-none}
-use Rattle.network.specs.Tests.{rule-kept, rule-broken, near-is, back-is, known-is}
+use Rattle.network.specs.Tests.{rule-kept, rule-broken, near-is, back-is, same-is}
 use borrow.Author.Needs.{needs}
 use Rattle.network.proofs.rules.present_fault.Statement.{statement}
 use Rattle.network.proofs.rules.present_fault.Tie as tie
@@ -43,7 +44,7 @@ back : (n : Network) (c : tie.Else3) → backRight (net n (start3 c)) (start3 c 
 back n c = rule-kept (back-is (net n (start3 c)) (start3 c .args .p)) (c .before .list-back .ensures) (c .if3 .left)
 
 known : (n : Network) (c : tie.Else4) → knownRight (net n (start4 c)) (start4 c .args .p) ≡ true
-known n c = rule-kept (known-is (net n (start4 c)) (start4 c .args .p) (start4 c .pre .1)) (c .before .row-known .ensures) (c .if4 .left)
+known n c = sym (same-is (net n (start4 c)) (start4 c .args .p) (start4 c .pre .1)) ∙ sym (c .before .row-same .ensures) ∙ not-no _ (c .if4 .left)
 
 cast-i : tie.Need-cast-i
 cast-i c = search needs
@@ -81,15 +82,15 @@ returns-3 c =
     let e2 = c .before .before in
     λ n. fault-5 _ _ (own n (e2 .before .before)) (near n e2) (rule-broken (back-is (net n (start2 e2)) (start2 e2 .args .p)) (c .before .list-back .ensures) (c .if3 .taken))
 
-row-known-requires : tie.Need-row-known-requires
-row-known-requires c κs = search needs
+row-same-requires : tie.Need-row-same-requires
+row-same-requires c κs = search needs
 
 returns-4 : tie.Need-returns-4
 returns-4 c =
     let e3 = c .before .before in
     let e2 = e3 .before .before in
     λ n. fault-6 _ _ (own n (e2 .before .before)) (near n e2) (back n e3)
-    (rule-broken (known-is (net n (start3 e3)) (start3 e3 .args .p) (start3 e3 .pre .1)) (c .before .row-known .ensures) (c .if4 .taken))
+    (sym (same-is (net n (start3 e3)) (start3 e3 .args .p) (start3 e3 .pre .1)) ∙ sym (c .before .row-same .ensures) ∙ not-yes _ (c .if4 .taken))
 
 mul-meet64 : tie.Need-mul-meet64
 mul-meet64 c = search needs
@@ -136,7 +137,7 @@ present-fault-spec =
     returns-2
     list-back-requires
     returns-3
-    row-known-requires
+    row-same-requires
     returns-4
     mul-meet64
     element-copy-out-meet64

@@ -79,9 +79,9 @@ unfolding readingOf
 reading-taken l place e h = sym (reading-at l place) ∙ ap readingOf h
 
 -- Within the bytes there is a record, whatever it holds.
-found-cond : (b : Bool) {x y : Reading} → x .found ≡ true → y .found ≡ true → cond b x y .found ≡ true
-found-cond true h k = h
-found-cond false h k = k
+found-cond : (b : Bool) (x y : Reading) → x .found ≡ true → y .found ≡ true → cond b x y .found ≡ true
+found-cond true x y h k = h
+found-cond false x y h k = k
 
 found-seven : (b : Bool) (e : Event) → orSeven b e .found ≡ true
 unfolding orSeven
@@ -90,10 +90,10 @@ found-seven false e = refl
 
 found-fields : (f : Fields) → decodeOf f .found ≡ true
 unfolding decodeOf
-found-fields f = kind 0 _ _ (kind 1 _ _ (kind 2 _ _ (kind 3 _ _ (kind 4 _ _ (kind 5 _ _ (kind 6 _ _ refl))))))
+found-fields f = kind 0 _ _ _ (kind 1 _ _ _ (kind 2 _ _ _ (kind 3 _ _ _ (kind 4 _ _ _ (kind 5 _ _ _ (kind 6 _ _ _ refl))))))
   where
-    kind : (code : ℕ) (b : Bool) (e : Event) {y : Reading} → y .found ≡ true → cond (eqb (f .code) code) (orSeven b e) y .found ≡ true
-    kind code b e k = found-cond (eqb (f .code) code) (found-seven b e) k
+    kind : (code : ℕ) (b : Bool) (e : Event) (y : Reading) → y .found ≡ true → cond (eqb (f .code) code) (orSeven b e) y .found ≡ true
+    kind code b e y k = found-cond (eqb (f .code) code) _ y (found-seven b e) k
 
 pub never-ended : (l : List ℕ) (place : ℕ) → place < length l / 16 → readAt l place ≡ End → ⊥
 unfolding readingAt readingOf

@@ -20,7 +20,7 @@ use Rattle.network.specs.declared.Topic.{Topic}
 use Rattle.network.specs.declared.Message.{Message}
 use Rattle.network.specs.declared.Network.{Network}
 use Rattle.network.specs.declared.Table.{Table}
-use Rattle.network.specs.Network.{peer, pendingOf, seenOf, knownOf, present, pending, saw, knows, topicOf, Shaped, Rows}
+use Rattle.network.specs.Network.{peer, pendingOf, seenOf, knownOf, present, publishes, subscribed, linked, pending, saw, knows, topicOf, Shaped, Rows}
 use Rattle.network.specs.Sound.{Sound}
 use Rattle.network.specs.SoundLaws.{pending-peer, pending-message, pending-present, saw-present, knows-present}
 use Rattle.floodnet.specs.Forward.{moved, receivers, given, forwarded, deliveries}
@@ -214,3 +214,15 @@ pub deliveries-sum : {n : Network} → Shaped n → (b : Table) (p : Peer) (m : 
     → deliveries n b p m ≡ sum 32 (λ (q : ℕ). digit (knows n p (topicOf b m) (peer q) && (not (pending n (peer q) m) && not (saw n (peer q) m))))
 unfolding deliveries
 deliveries-sum {n} s b p m a = size-sum 32 (receivers n b p m) (receivers-lt s b p m) ∙ sum-same 32 _ _ λ q l. ap digit (receivers-pending s b p m a (peer q))
+
+pub forwarded-publishes : (n : Network) (b : Table) (p : Peer) (m : Message) (q : Peer) (t : Topic) → publishes (forwarded n b p m) q t ≡ publishes n q t
+unfolding forwarded given moved
+forwarded-publishes n b p m q t = refl
+
+pub forwarded-subscribed : (n : Network) (b : Table) (p : Peer) (m : Message) (q : Peer) (t : Topic) → subscribed (forwarded n b p m) q t ≡ subscribed n q t
+unfolding forwarded given moved
+forwarded-subscribed n b p m q t = refl
+
+pub forwarded-linked : (n : Network) (b : Table) (p : Peer) (m : Message) (q r : Peer) → linked (forwarded n b p m) q r ≡ linked n q r
+unfolding forwarded given moved
+forwarded-linked n b p m q r = refl

@@ -1,20 +1,23 @@
 -- Who holds a message, when it is new, and produce, in observations; a produce of a new message keeps a network sound. Assumes nothing.
-use mathlib.Core.Path.{_≡_, sym, ap, _∙_}
+use mathlib.Core.Path.{_≡_, refl, sym, ap, _∙_}
 use mathlib.Core.Logic.{_⊎_, inl, inr}
-use mathlib.Core.Bool.{true, false, _&&_, _||_}
-use Prim.Native.Nat.{ℕ, _<_}
+use mathlib.Core.Bool.{Bool, true, false, _&&_, _||_}
+use Prim.Native.Nat.{ℕ, _^_, _≤_, _<_}
 use native.Mathlib.Omega.{arith}
 use lib.Dec.{eqb}
-use borrow.Author.Tests.{eqb-true}
+use native.Mathlib.Decide.{decLt}
+use borrow.Author.Tests.{eqb-true, eq-eqb}
 use Rattle.sets.specs.Set.{has, only}
-use Rattle.sets.specs.Bools.{clash, not-false, and-yes, and-fails, or-yes, or-no}
+use Rattle.sets.specs.Bools.{clash, not-false, and-yes, and-no, and-fails, or-yes, or-no}
 use Rattle.sets.specs.Members.{has-none}
-use Rattle.sets.specs.Bounds.{union-lt, only-lt}
-use Rattle.sets.specs.Build.{has-sift}
+use Rattle.sets.specs.Bounds.{has-out, union-lt, only-lt}
+use Rattle.sets.specs.Build.{has-sift, sift-lt}
+use Rattle.sets.specs.Lowest.{none-empty}
 use Rattle.network.specs.declared.Peer.{Peer}
+use Rattle.network.specs.declared.Topic.{Topic}
 use Rattle.network.specs.declared.Message.{Message}
 use Rattle.network.specs.declared.Network.{Network}
-use Rattle.network.specs.Network.{peer, pendingOf, present, pending, saw, Shaped}
+use Rattle.network.specs.Network.{peer, pendingOf, present, publishes, subscribed, linked, pending, saw, knows, Shaped}
 use Rattle.network.specs.Sound.{Sound}
 use Rattle.network.specs.SoundLaws.{present-peer, pending-present, saw-present}
 use Rattle.floodnet.specs.Produce.{holders, isNew, produced}
@@ -85,3 +88,49 @@ produced-sound {n} s p m a new h =
     apart : (q : Peer) (k : Message) → (pending n q k ≡ true) ⊎ ((q .0 ≡ p .0) × (k .0 ≡ m .0)) → saw n q k ≡ false
     apart q k (inl x) = s .apart q k x
     apart q k (inr x) = rw (x .0, x .1) (new-nowhere s m new p .1)
+
+-- They are a set of peers.
+pub holders-lt : (n : Network) (s : ℕ) (m : Message) → holders n s m < 2 ^ 32
+unfolding holders
+holders-lt n s m = sift-lt 32 s (λ (i : ℕ). pending n (peer i) m || saw n (peer i) m)
+
+-- And back.
+pub new-yes : (n : Network) (m : Message) → ((q : Peer) → present n q ≡ true → (pending n q m ≡ false) × (saw n q m ≡ false)) → isNew n m ≡ true
+unfolding isNew
+new-yes n m h = eq-eqb (holders n (n .present) m) 0 (none-empty (holders n (n .present) m) λ i. go i (decLt i 32))
+  where
+    neither : (a b : Bool) → (a ≡ false) × (b ≡ false) → (a || b) ≡ false
+    neither a b e = rw (e .0, e .1)
+
+    go : (i : ℕ) → Dec (i < 32) → has (holders n (n .present) m) i ≡ false
+    go i (yes l) =
+        has-holders n (n .present) m (peer i) l
+        ∙ and-no (present n (peer i)) (pending n (peer i) m || saw n (peer i) m) λ a. neither (pending n (peer i) m) (saw n (peer i) m) (h (peer i) a)
+    go i (no l) =
+        let o : 32 ≤ i = omega arith in
+        has-out 32 (holders n (n .present) m) i (holders-lt n (n .present) m) o
+
+-- All else is as it was.
+pub produced-present : (n : Network) (p : Peer) (m : Message) (q : Peer) → present (produced n p m) q ≡ present n q
+unfolding produced
+produced-present n p m q = refl
+
+pub produced-publishes : (n : Network) (p : Peer) (m : Message) (q : Peer) (t : Topic) → publishes (produced n p m) q t ≡ publishes n q t
+unfolding produced
+produced-publishes n p m q t = refl
+
+pub produced-subscribed : (n : Network) (p : Peer) (m : Message) (q : Peer) (t : Topic) → subscribed (produced n p m) q t ≡ subscribed n q t
+unfolding produced
+produced-subscribed n p m q t = refl
+
+pub produced-linked : (n : Network) (p : Peer) (m : Message) (q r : Peer) → linked (produced n p m) q r ≡ linked n q r
+unfolding produced
+produced-linked n p m q r = refl
+
+pub produced-saw : (n : Network) (p : Peer) (m : Message) (q : Peer) (k : Message) → saw (produced n p m) q k ≡ saw n q k
+unfolding produced
+produced-saw n p m q k = refl
+
+pub produced-knows : (n : Network) (p : Peer) (m : Message) (q : Peer) (t : Topic) (r : Peer) → knows (produced n p m) q t r ≡ knows n q t r
+unfolding produced
+produced-knows n p m q t r = refl

@@ -20,7 +20,7 @@ use Rattle.events.specs.declared.kind.Kind.{Kind}
 use Rattle.events.specs.Event.{readAt}
 use Rattle.events.specs.Kind.{alike}
 use Rattle.floodnet.specs.Step.{refusal, effect, deliveriesOf}
-use Rattle.floodnet.specs.Page.{FloodnetPage}
+use Rattle.transitions.specs.Page.{FloodnetPage}
 use Rattle.floodnet.specs.View.{pairs}
 use Rattle.engine.specs.declared.Tally.{Tally}
 use Rattle.engine.specs.declared.Answer.{Answer}
@@ -79,7 +79,7 @@ pub record TurnPage (ev : List ℕ) (b : Table) (n : Network) (i : ℕ) (m : Net
   -- bytes that are no event are refused: by 6 for an unknown code, by 7 for a number out of range or an unused byte that is not zero
   pub unknown : readAt ev i ≡ Unknown → turnAt ev b n i .number ≡ 6
   pub unfit : readAt ev i ≡ Unfit → turnAt ev b n i .number ≡ 7
-  -- an event is refused by the number of the first of its conditions that fails, 0 if none does (floodnet's specs/Page.antt)
+  -- an event is refused by the number of the first of its conditions that fails, 0 if none does (specs/Page.antt of the crate transitions)
   pub event : (e : Event) → readAt ev i ≡ Taken e → turnAt ev b n i .number ≡ refusal m b e
   -- an accepted event does what its kind does, and makes as many deliveries as that
   pub does : (e : Event) → readAt ev i ≡ Taken e → refusal m b e ≡ 0 → (reached ev b n (suc i) ≡ effect m b e) × (turnAt ev b n i .deliveries ≡ deliveriesOf m b e)

@@ -27,7 +27,7 @@ use Rattle.events.specs.declared.kind.Kind.{Kind}
 use Rattle.events.specs.Event.{readingOf}
 use Rattle.events.specs.Kind.{kindOf, alike}
 use Rattle.floodnet.specs.Step.{refusal, effect, ifAccepted, after, deliveriesOf, turned, turnedOf}
-use Rattle.floodnet.specs.PageLaws.{floodnet-page}
+use Rattle.transitions.specs.PageLaws.{floodnet-page}
 use Rattle.engine.specs.declared.Tally.{Tally}
 use Rattle.engine.specs.declared.Answer.{Answer}
 use Rattle.engine.specs.Start.{beginOf}

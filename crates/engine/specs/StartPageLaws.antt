@@ -14,6 +14,7 @@ use Rattle.sets.specs.Least.{lowestOf-lt-holds, lowestOf-least, lowestOf-is, lo
 use Rattle.network.specs.declared.Opened.{Opened}
 use Rattle.network.specs.declared.Listed.{Listed}
 use Rattle.network.specs.Network.{peer}
+use Rattle.network.specs.Rules.{faulty, lowestBy}
 use Rattle.network.specs.State.{openOf, opened, faultAt, unsoundAt}
 use Rattle.network.specs.Rows.{rowRight, badRow, listOf}
 use Rattle.network.specs.OpenedSound.{accepted}
@@ -41,7 +42,7 @@ module _ (t : List ℕ) (long : length t ≡ 256) where
   unfolding badRow
   table-right h =
       let e : badRow t ≡ 64 = lowestOf-none 64 _ λ i l. ap not (sym (row-is t i (h i l))) in
-      ap (λ (l : Listed). l .number) (sym (list-0 t (badRow t) long refl (omega arith) refl refl))
+      ap (λ (l : Listed). l .number) (sym (list-0 t (badRow t) long refl (omega arith) refl))
 
   table-wrong : (r : ℕ) → r < 64 → (Right t r → ⊥) → ((i : ℕ) → i < r → Right t i) → (listOf t .number ≡ 4) × (listOf t .place ≡ r)
   unfolding badRow
@@ -56,27 +57,27 @@ module _ (t : List ℕ) (long : length t ≡ 256) where
     where
       first : Dec (badRow t < 64) → P (listOf t .number) (listOf t .place)
       first (yes l) = subst (λ (x : Listed). P (x .number) (x .place)) (list-4 t (badRow t) long refl l) (g l)
-      first (no l) = subst (λ (x : Listed). P (x .number) (x .place)) (list-0 t (badRow t) long refl (omega arith) refl refl) (f λ r c. right-below r (omega arith))
+      first (no l) = subst (λ (x : Listed). P (x .number) (x .place)) (list-0 t (badRow t) long refl (omega arith) refl) (f λ r c. right-below r (omega arith))
 
 -- ---- reading the state
 
 module _ (s : List ℕ) (long : length s ≡ 5120) where
   sound-below : (p : ℕ) → p < unsoundAt s → faultAt s (peer p) ≡ 0
-  unfolding unsoundAt
+  unfolding lowestBy faulty
   sound-below p l = eqb-true _ _ (not-no _ (lowestOf-least 32 (λ (q : ℕ). not (eqb (faultAt s (peer q)) 0)) p l))
 
   unsound-there : unsoundAt s < 32 → faultAt s (peer (unsoundAt s)) ≡ 0 → ⊥
-  unfolding unsoundAt
+  unfolding lowestBy faulty
   unsound-there l = eqb-false _ _ (not-yes _ (lowestOf-lt-holds 32 (λ (q : ℕ). not (eqb (faultAt s (peer q)) 0)) l))
 
   state-sound : RecordsSound s → openOf s .number ≡ 0
-  unfolding unsoundAt
+  unfolding lowestBy faulty
   state-sound h =
       let e : unsoundAt s ≡ 32 = lowestOf-none 32 _ λ p l. ap not (eq-eqb _ _ (h p l)) in
       ap (λ (o : Opened). o .number) (sym (open-0 s (unsoundAt s) long refl (omega arith) refl))
 
   state-unsound : (p : ℕ) → p < 32 → (faultAt s (peer p) ≡ 0 → ⊥) → ((i : ℕ) → i < p → faultAt s (peer i) ≡ 0) → (openOf s .number ≡ 5) × (openOf s .place ≡ p)
-  unfolding unsoundAt
+  unfolding lowestBy faulty
   state-unsound p l h k =
       let e : unsoundAt s ≡ p = lowestOf-is 32 _ p l (ap not (ne-eqb h)) λ i c. ap not (eq-eqb _ _ (k i c)) in
       let f = open-5 s p long (sym e) l in
@@ -105,9 +106,9 @@ module _ (s t : List ℕ) (events : ℕ) where
           (λ right a _.
           state-either s (l .state) (λ number place. openOf s .number ≡ number → openOf s .place ≡ place → Starts s t events (beginOf s t events .number) (beginOf s t events .place))
           (λ sound c _. by (begin-0 s t events (l .state) (l .table) (l .records) refl a refl c) (all-right l right sound))
-          (λ b c d. by (begin-5 s t events (l .state) (l .table) (l .records) refl a refl (λ z. omega arith)) (rw d (unsound-record l right (unsoundAt s) b (unsound-there s (l .state) b) (sound-below s (l .state)))))
+          (λ b c d. by (begin-5 s t events (l .state) (l .table) (l .records) refl a refl (λ z. omega arith)) (rw (c, d) (unsound-record l right (unsoundAt s) b (unsound-there s (l .state) b) (sound-below s (l .state)))))
           refl refl)
-          (λ b c d. by (begin-4 s t events (l .state) (l .table) (l .records) refl (λ z. omega arith)) (rw d (wrong-row l (badRow t) b (wrong-there t (l .table) b) (right-below t (l .table)))))
+          (λ b c d. by (begin-4 s t events (l .state) (l .table) (l .records) refl (λ z. omega arith)) (rw (c, d) (wrong-row l (badRow t) b (wrong-there t (l .table) b) (right-below t (l .table)))))
           refl refl
 
       three : length s ≡ 5120 → length t ≡ 256 → Starts s t events (beginOf s t events .number) (beginOf s t events .place)
@@ -132,11 +133,11 @@ module _ (s t : List ℕ) (events : ℕ) where
   begins (wrong-row l r b h k) =
       let x = table-wrong t (l .table) r b h k in
       let y = said (begin-4 s t events (l .state) (l .table) (l .records) refl (λ z. omega (arith, x .0))) in
-      (y .0, y .1 ∙ x .1)
+      (y .0 ∙ x .0, y .1 ∙ x .1)
   begins (unsound-record l right p b h k) =
       let x = state-unsound s (l .state) p b h k in
       let y = said (begin-5 s t events (l .state) (l .table) (l .records) refl (table-right t (l .table) right) refl (λ z. omega (arith, x .0))) in
-      (y .0, y .1 ∙ x .1)
+      (y .0 ∙ x .0, y .1 ∙ x .1)
 
   -- THE THEOREM: the refusals 1 to 5 are exact, for all bytes.
   pub start-page : StartPage s t events

@@ -16,7 +16,7 @@ use Rattle.floodnet.specs.Forward.{forwarded, deliveries}
 use Rattle.broadcastnet.specs.Commit.{imageNet}
 use Rattle.engine.specs.declared.Begun.{Begun}
 use Rattle.engine.specs.Start.{beginOf}
-use Rattle.engine.specs.Alone.{Forwards, noForward, forwardOf, checked, checkOf, copyOf, copiedOf}
+use Rattle.engine.specs.Alone.{Forwards, noForward, forwardOn, forwardOf, checked, checkOf, copyOf, copiedOf}
 use Rattle.engine.specs.Draining.{refusedDrain, drainEndOf}
 use Rattle.engine.specs.Imaging.{imageAnswerOf, imagedOf}
 
@@ -36,7 +36,7 @@ pub record UntouchedPage (s t : List ℕ) : Type 0 where
 -- ---- it holds
 
 forward-untouched : (s t : List ℕ) (p m : ℕ) → (forwardOf s t p m .answer .number ≡ 0 → ⊥) → (forwardOf s t p m .answer .deliveries ≡ 0) × (forwardOf s t p m .state ≡ s)
-unfolding forwardOf
+unfolding forwardOf forwardOn
 forward-untouched s t p m = first (eqb (g .number) 0) (ltb p 32 && ltb m 64) (eqb k 0)
   where
     g : Begun

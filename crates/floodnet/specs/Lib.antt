@@ -27,7 +27,4 @@ pub mod CodeForward
 pub mod CodeLinks
 pub mod CodeRefusals
 pub mod CodeTurns
-pub mod Exactly
-pub mod Page
-pub mod PageLaws
 pub mod Settled

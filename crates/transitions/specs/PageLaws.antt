@@ -20,18 +20,18 @@ use Rattle.network.specs.Network.{Rows, peer, present, publishes, pending, saw,
 use Rattle.network.specs.Sound.{Sound}
 use Rattle.events.specs.declared.Joining.{Joining}
 use Rattle.events.specs.declared.Event.the-variants as kind
 use Rattle.floodnet.specs.Produce.{holders, isNew}
 use Rattle.floodnet.specs.Topics.{subscribedTo, unsubscribedFrom}
 use Rattle.floodnet.specs.Links.{joined}
 use Rattle.floodnet.specs.Refusals.{refusalProduce, refusalForward, refusalTopics, refusalLeave, refusalJoin}
 use Rattle.floodnet.specs.Step.{refusal, effect, deliveriesOf}
 use Rattle.floodnet.specs.ProduceLaws.{has-holders, holders-lt, new-why, new-yes, produced-pending, produced-present, produced-publishes, produced-subscribed, produced-linked, produced-saw, produced-knows}
 use Rattle.floodnet.specs.ForwardLaws.{forwarded-saw, forwarded-pending, forwarded-present, forwarded-publishes, forwarded-subscribed, forwarded-linked, forwarded-knows, deliveries-sum}
 use Rattle.floodnet.specs.TopicsLaws.{SameButTopics, subscribed-rest, unsubscribed-rest, subscribed-more, knows-more, subscribed-less, knows-less}
 use Rattle.floodnet.specs.LeaveJoin.{present-left, publishes-left, subscribed-left, pending-left, saw-left, linked-left, knows-left, present-joined, publishes-joined, subscribed-joined, pending-joined, seen-joined, linked-joined, joined-sound}
 use Rattle.floodnet.specs.StepLaws.{forward-met, join-met}
-use Rattle.floodnet.specs.Exactly.{three, four, by, yes-if, or-if, and-if, and3-if, not-if, no-if, yes-not, eq-if, ne-if, cond-if, need-is, need-on, need-not, need-last, empty-if, some-if}
-use Rattle.floodnet.specs.Page.{SkipPage, ProducePage, ForwardPage, SubscribePage, UnsubscribePage, LeavePage, Joins, JoinPage, FloodnetPage}
+use Rattle.transitions.specs.Exactly.{three, four, by, yes-if, or-if, and-if, and3-if, not-if, no-if, yes-not, eq-if, ne-if, cond-if, need-is, need-on, need-not, need-last, empty-if, some-if}
+use Rattle.transitions.specs.Page.{SkipPage, ProducePage, ForwardPage, SubscribePage, UnsubscribePage, LeavePage, Joins, JoinPage, FloodnetPage}
 
 -- ---- the conditions, in observations
 

@@ -23,4 +23,5 @@ pub mod ImagingLaws
 pub mod ForwardRun
 pub mod ReachPage
 pub mod ReachPageLaws
+pub mod ForwardBytes
 pub mod RunImages

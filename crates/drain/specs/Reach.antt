@@ -86,7 +86,7 @@ pub record Reach (b : Table) (n : Network) : Type 0 where
   -- The same of one message that is pending nowhere, while others may still be.
   pub seen-at-rest : (l : List Forward) → Accepted b n l → (m : Message) → ((p : Peer) → pending (after b n l) p m ≡ false) → (q : Peer)
       → (saw (after b n l) q m ≡ true) ↔ ((saw n q m ≡ true) ⊎ ((pending n q m ≡ true) ⊎ ((d : ℕ) × Reaches b n m q (suc d))))
-  -- What is pending can be forwarded, and nothing else can: so a host never stops before nothing is pending.
+  -- What is pending can be forwarded, and nothing else can: a host can go on until nothing is pending.
   pub goes-on : (p : Peer) (m : Message) → (refusalForward n p m ≡ 0) ↔ (pending n p m ≡ true)
   -- a desk that is reached is present
   pub reached-present : (m : Message) (q : Peer) (d : ℕ) → Reaches b n m q d → present n q ≡ true

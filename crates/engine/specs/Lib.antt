@@ -23,6 +23,7 @@ pub mod ImagingLaws
 pub mod ForwardRun
 pub mod ReachPage
 pub mod ReachPageLaws
+pub mod ForwardBytes
 pub mod RunImages
 pub mod RunReached
 pub mod StartPage

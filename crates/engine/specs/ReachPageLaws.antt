@@ -1,10 +1,11 @@
 -- A run over forward records, and single forwards one after another, leave what the client's page says (specs/ReachPage.antt). Assumes nothing.
 use mathlib.Core.Path.{_≡_, refl, sym, ap, subst, _∙_}
 use mathlib.Core.List.{List, [], _∷_}
-use Prim.Native.Nat.{ℕ, suc, _+_, _/_, _%_}
+use Prim.Native.Nat.{ℕ, suc, _+_, _/_, _%_, _<_}
 use native.Mathlib.Omega.{arith}
 use native.Mathlib.Decide.{ℕ-discrete}
 use lib.ListN.{length}
+use borrow.Author.Tests.{lt-ltb}
 use Rattle.sets.specs.Bools.{ne-eqb}
 use Rattle.endian.specs.Le.{Bytes}
 use Rattle.network.specs.declared.Peer.{Peer}
@@ -14,6 +15,7 @@ use Rattle.network.specs.declared.Table.{Table}
 use Rattle.network.specs.State.{bytesOf, opened, openOf}
 use Rattle.network.specs.Rows.{listOf}
 use Rattle.network.specs.Sound.{Sound}
+use Rattle.network.specs.SoundLaws.{pending-peer, pending-message}
 use Rattle.network.specs.Listing.{listed-rows}
 use Rattle.network.specs.Trips.{read-write, bytes-long, write-read}
 use Rattle.events.specs.declared.Event.the-variants as events
@@ -23,6 +25,7 @@ use Rattle.events.specs.Event.{readAt}
 use Rattle.floodnet.specs.Forward.{forwarded}
 use Rattle.floodnet.specs.Refusals.{refusalForward}
 use Rattle.drain.specs.Reach.{Forward, by, after, Accepted, Quiet}
+use Rattle.drain.specs.ReachWords.{accepted-pending}
 use Rattle.drain.specs.ReachLaws.{reach}
 use Rattle.engine.specs.declared.Answer.{Answer}
 use Rattle.engine.specs.declared.Tally.{Tally}
@@ -169,6 +172,12 @@ read-both s t =
     (λ k p h z. absurd (h z))
     λ a b c d z. (b, c, d, refl)
 
+-- an accepted forward, called alone
+alone-passes : (s t : List ℕ) (p : Peer) (m : Message) → beginOf s t 0 .number ≡ 0 → p .0 < 32 → m .0 < 64 → refusalForward (beginOf s t 0 .network) p m ≡ 0
+    → forwardOf s t (p .0) (m .0) .answer .number ≡ 0
+unfolding forwardOf
+alone-passes s t p m z l k e = rw (z, lt-ltb (p .0) 32 l, lt-ltb (m .0) 64 k, e)
+
 module _ (t : List ℕ) (e : length t ≡ 256) (f : listOf t .number ≡ 0) where
   -- the bytes of a sound network are read as it
   reads-back : {n : Network} → Sound n → beginOf (bytesOf n) t 0 ≡ record { number = 0; place = 0; network = n; table = listOf t .table }
@@ -186,6 +195,24 @@ module _ (t : List ℕ) (e : length t ≡ 256) (f : listOf t .number ≡ 0) wher
       let state : forwardOf (bytesOf n) t (p .0) (m .0) .state ≡ bytesOf (forwarded n (listOf t .table) p m) = rw g at (x .state) in
       let y = one-by-one l (forwarded n (listOf t .table) p m) (reach s (listed-rows t) .stays-sound (by p m ∷ []) (right, tt)) (rw state at (a .1)) in
       ((right, y .0), rw state (y .1))
+
+  -- And back: accepted forwards all pass.
+  pass : (l : List Forward) (n : Network) → Sound n → Accepted (listOf t .table) n l → AllPass (bytesOf n) t l
+  unfolding after
+  pass [] n s a = tt
+  pass (by p m ∷ l) n s a =
+      let g = reads-back s in
+      let w = accepted-pending n p m (a .0) in
+      let x = alone-passes (bytesOf n) t p m (ap (λ (y : Begun). y .number) g) (pending-peer (s .shaped) p m w) (pending-message (s .shaped) p m w) (rw g (a .0)) in
+      let state : forwardOf (bytesOf n) t (p .0) (m .0) .state ≡ bytesOf (forwarded n (listOf t .table) p m) = rw g at (forward-passed (bytesOf n) t (p .0) (m .0) x .state) in
+      (x, rw state (pass l (forwarded n (listOf t .table) p m) (reach s (listed-rows t) .stays-sound (by p m ∷ []) (a .0, tt)) (a .1)))
+
+-- Accepted forwards, called alone, all pass.
+pub alone-accepts : (s t : List ℕ) → Bytes s → beginOf s t 0 .number ≡ 0 → (l : List Forward) → Accepted (beginOf s t 0 .table) (beginOf s t 0 .network) l → AllPass s t l
+alone-accepts s t h z l a =
+    let x = read-both s t z in
+    let sound : Sound (openOf s .network) = rw (x .3) at (begun-sound s t h) in
+    rw (read-write s h (x .2)) at (pass t (x .0) (x .1) l (openOf s .network) sound (subst (λ (g : Begun). Accepted (g .table) (g .network) l) (x .3) a))
 
 -- THE SINGLE FORWARDS: where none is refused, they leave what the page says.
 pub alone-forwards : (s t : List ℕ) → Bytes s → beginOf s t 0 .number ≡ 0 → (l : List Forward) → AllPass s t l

@@ -14,7 +14,7 @@ use Rattle.engine.specs.declared.Tally.{Tally}
 use Rattle.engine.specs.Run.{Ending, runOf}
 use Rattle.engine.specs.Draining.{drained, drainEndOf}
 use Rattle.engine.specs.Imaging.{imagedOf}
-use Rattle.engine.specs.FromBlank.{blankState, blankRows}
+use Rattle.pages.specs.FromBlank.{blankState, blankRows}
 
 -- ---- events as 01 writes them
 

@@ -26,7 +26,7 @@ use Rattle.engine.specs.declared.Answer.{Answer}
 use Rattle.engine.specs.Run.{Ending, Final, runAll, written}
 use Rattle.engine.specs.Draining.{drained, drainEndOf}
 use Rattle.engine.specs.Imaging.{imagedOf}
-use Rattle.engine.specs.FromBlank.{blankRows, run-from-blank, sound-from-blank, drain-with-blank, image-of-sound}
+use Rattle.pages.specs.FromBlank.{blankRows, run-from-blank, sound-from-blank, drain-with-blank, image-of-sound}
 use Rattle.cases.specs.Rows.{bytes, Row, answers, image-as, neighbours, drains, ran, Holds, Each}
 
 -- ---- the test

@@ -27,7 +27,8 @@ use Rattle.floodnet.specs.Forward.{moved, receivers, given, forwarded}
 use Rattle.floodnet.specs.Produce.{holders}
 use Rattle.floodnet.specs.Places.{has-set, has-edit}
 use Rattle.floodnet.specs.View.{fwd}
-use Rattle.floodnet.specs.CodeForward.{table, withMessages}
+use Rattle.floodnet.specs.CodeForward.{withMessages}
+use Rattle.network.specs.Network.{table}
 use Rattle.drain.specs.Pairs.{pairsOf}
 use Rattle.drain.specs.Lent.{Leads}
 use Rattle.drain.specs.AtOnce.{has-left, reach, spread, AtOnce, has-reach}

@@ -11,7 +11,8 @@ use Rattle.network.specs.declared.Network.{Network}
 use Rattle.network.specs.Network.{bare, Rows}
 use Rattle.network.specs.Sound.{Sound}
 use Rattle.floodnet.specs.View.{view, fwd}
-use Rattle.floodnet.specs.CodeForward.{table, withMessages}
+use Rattle.floodnet.specs.CodeForward.{withMessages}
+use Rattle.network.specs.Network.{table}
 use Rattle.drain.specs.Drain.{drainOf, drainWithin, quietOf}
 use Rattle.drain.specs.DrainLaws.{due-list, waiting-due, any-fuel, drain-within}
 use Rattle.drain.specs.Pairs.{listOf, waitingOf, emptyWords}

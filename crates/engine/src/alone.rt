@@ -4,7 +4,7 @@ ghost use mathlib.Core.List.{List};
 ghost use Prim.Native.Nat.{ℕ, _<_};
 ghost use lib.ListN.{length, getD};
 ghost use Rattle.network.specs.Network.{mk};
-ghost use Rattle.floodnet.specs.CodeForward.{table};
+ghost use Rattle.network.specs.Network.{table};
 ghost use Rattle.engine.specs.Alone.{checked, checkOf, copyOf, copiedOf, forwardOn, forwardOf};
 ghost use Rattle.engine.specs.ForwardAlone.{forwardedBy, Gives};
 use crate::Checked;

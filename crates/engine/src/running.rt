@@ -4,7 +4,7 @@ ghost use mathlib.Core.Path.{_≡_};
 ghost use Prim.Native.Nat.{_≤_};
 ghost use lib.ListN.{length};
 ghost use Rattle.network.specs.Network.{mk, Rows};
-ghost use Rattle.floodnet.specs.CodeForward.{table};
+ghost use Rattle.network.specs.Network.{table};
 ghost use Rattle.engine.specs.Run.{tally, answered, refusedBy, turnOf, ran, runAll, RunsTo, written, runOf, Ends};
 ghost use Rattle.engine.specs.RunSound.{ReadFits};
 use crate::Answer;

@@ -1,19 +1,19 @@
 -- 01's number and values fix the case: a promise through `readingOf` says which case was answered, and every reading of bytes is
 -- a case's. Assumes nothing.
-use Prim.Native.Nat.{ℕ, _/_, _<_}
+use Prim.Native.Nat.{ℕ, _*_, _/_, _<_}
 use mathlib.Core.Path.{_≡_, refl, sym, ap, _∙_}
 use mathlib.Core.Bool.{Bool, true, false, cond}
 use mathlib.Core.List.{List}
 use lib.Dec.{ltb, eqb}
 use lib.ListN.{length}
-use borrow.Author.Tests.{lt-ltb}
+use borrow.Author.Tests.{lt-ltb, ltb-true}
 use Rattle.sets.specs.Bools.{clash}
 use Rattle.events.specs.declared.Fields.{Fields}
 use Rattle.events.specs.declared.Event.{Event}
 use Rattle.events.specs.declared.Read.{Read}
 use Rattle.events.specs.declared.Read.the-variants.{Taken, End, Unknown, Unfit}
 use Rattle.events.specs.declared.Reading.{Reading}
-use Rattle.events.specs.Event.{taken, refused, ended, readingOf, readOf, orSeven, decodeOf, readingAt, readAt}
+use Rattle.events.specs.Event.{taken, refused, ended, readingOf, readOf, orSeven, decodeOf, fieldsAt, readingAt, readAt}
 
 -- a case is found again from its reading
 read-of : (r : Read) → readOf (readingOf r) ≡ r
@@ -100,3 +100,12 @@ unfolding readingAt readingOf
 never-ended l place h e =
     let there : readingAt l place .found ≡ true = rw (lt-ltb place (length l / 16) h) (found-fields _) in
     clash there (ap (λ (x : Reading). x .found) (sym (reading-at l place) ∙ ap readingOf e))
+
+-- and an event that is taken stands within the bytes
+pub taken-inside : (l : List ℕ) (place : ℕ) (e : Event) → readAt l place ≡ Taken e → place < length l / 16
+unfolding readingAt
+taken-inside l place e k = first (ltb place (length l / 16)) refl (reading-taken l place e k)
+  where
+    first : (b : Bool) → ltb place (length l / 16) ≡ b → cond b (decodeOf (fieldsAt l (place * 16))) ended ≡ taken e → place < length l / 16
+    first true t h = ltb-true _ _ t
+    first false t h = clash (ap (λ (r : Reading). r .found) h) refl

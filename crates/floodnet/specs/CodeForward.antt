@@ -10,14 +10,10 @@ use Rattle.network.specs.declared.Topic.{Topic}
 use Rattle.network.specs.declared.Message.{Message}
 use Rattle.network.specs.declared.Network.{Network}
 use Rattle.network.specs.declared.Table.{Table}
-use Rattle.network.specs.Network.{withPending, withSeen, withKnown, topic, spot}
+use Rattle.network.specs.Network.{table, withPending, withSeen, withKnown, topic, spot}
 use Rattle.floodnet.specs.Produce.{holders}
 use Rattle.floodnet.specs.Forward.{moved, receivers, given, forwarded}
 use Rattle.floodnet.specs.CodeArrays.{holding}
-
--- a table by its parts
-abbrev pub table : List ℕ → List ℕ → Table
-table topics origins = record { topics = topics; origins = origins }
 
 -- n with these parts, which concern messages
 abbrev pub withMessages : Network → List ℕ → List ℕ → List ℕ → Network

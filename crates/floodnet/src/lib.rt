@@ -8,7 +8,7 @@ ghost use Rattle.network.specs.declared.Network.{Network};
 ghost use Rattle.network.specs.Network.{withAll, Rows};
 ghost use Rattle.events.specs.Fits.{EventFits};
 ghost use Rattle.floodnet.specs.Step.{after, turnedOf};
-ghost use Rattle.floodnet.specs.CodeForward.{table};
+ghost use Rattle.network.specs.Network.{table};
 use events::Event;
 use events::kind::Kind;
 

@@ -6,7 +6,7 @@ ghost use lib.ListN.{getD};
 ghost use Rattle.network.specs.declared.Network.{Network};
 ghost use Rattle.network.specs.Network.{withPresent, withPubs, withPending, withSeen};
 ghost use Rattle.floodnet.specs.Refusals.{refusalProduce, refusalForward, refusalTopics, refusalLeave, refusalJoin};
-ghost use Rattle.floodnet.specs.CodeForward.{table};
+ghost use Rattle.network.specs.Network.{table};
 use super::arrays;
 use network::Message;
 use network::Peer;

@@ -126,6 +126,10 @@ topicOf b m = topic (getD (b .topics) (m .0) 0)
 abbrev pub originOf : Table → Message → Peer
 originOf b m = peer (getD (b .origins) (m .0) 0)
 
+-- a table by its parts
+abbrev pub table : List ℕ → List ℕ → Table
+table topics origins = record { topics = topics; origins = origins }
+
 pub record Rows (b : Table) : Type 0 where
   pub topics : length (b .topics) ≡ 64
   pub origins : length (b .origins) ≡ 64

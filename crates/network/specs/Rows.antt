@@ -9,6 +9,7 @@ use Rattle.sets.specs.Least.{lowestOf}
 use Rattle.lists.specs.Tab.{tab}
 use Rattle.network.specs.declared.Table.{Table}
 use Rattle.network.specs.declared.Listed.{Listed}
+use Rattle.network.specs.Network.{table}
 
 -- byte j of row r
 abbrev pub byteIn : List ℕ → ℕ → ℕ → ℕ
@@ -22,15 +23,12 @@ rowRight b r = ltb (byteIn b r 0) 32 && (ltb (byteIn b r 1) 32 && (eqb (byteIn b
 unfoldable pub badRow : List ℕ → ℕ
 badRow b = lowestOf 64 (λ (r : ℕ). not (rowRight b r))
 
-abbrev pub columns : List ℕ → List ℕ → Table
-columns topics origins = record { topics = topics; origins = origins }
-
 -- the table that the rows say, and the one that a refused reading answers
 unfoldable pub tableOf : List ℕ → Table
-tableOf b = columns (tab 64 (λ (r : ℕ). byteIn b r 0)) (tab 64 (λ (r : ℕ). byteIn b r 1))
+tableOf b = table (tab 64 (λ (r : ℕ). byteIn b r 0)) (tab 64 (λ (r : ℕ). byteIn b r 1))
 
 unfoldable pub blankTable : Table
-blankTable = columns (replicate 64 0) (replicate 64 0)
+blankTable = table (replicate 64 0) (replicate 64 0)
 
 abbrev pub listed : ℕ → ℕ → Table → Listed
 listed number place t = record { number = number; place = place; table = t }

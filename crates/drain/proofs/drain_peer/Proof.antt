@@ -8,7 +8,8 @@ use borrow.Author.Needs.{needs}
 use Rattle.network.specs.declared.Network.{Network}
 use Rattle.network.specs.Network.{bare}
 use Rattle.floodnet.specs.View.{fwd}
-use Rattle.floodnet.specs.CodeForward.{table, withMessages}
+use Rattle.floodnet.specs.CodeForward.{withMessages}
+use Rattle.network.specs.Network.{table}
 use Rattle.drain.specs.Pairs.{Walk, walk-none, walk-more, walk-done}
 use Rattle.drain.specs.AtOnceForwards.{all-at-once}
 use Rattle.drain.proofs.drain_peer.Statement.{statement}

@@ -4,7 +4,7 @@ use Prim.Native.Nat.{_-_, _*_, _/_, _^_, _<_}
 use lib.ListN.{length}
 use native.Mathlib.Omega.{arith}
 use Rattle.network.specs.Network.{mk}
-use Rattle.floodnet.specs.CodeForward.{table}
+use Rattle.network.specs.Network.{table}
 use Rattle.events.specs.ReadingLaws.{read-is}
 use Rattle.engine.specs.Run.{tally, zeroTally, runFrom, runAll}
 use Rattle.engine.specs.RunSound.{reads-fit}

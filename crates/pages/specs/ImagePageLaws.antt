@@ -27,16 +27,16 @@ use Rattle.broadcastnet.specs.ImageNet.{image-written, imageNet-sound}
 use Rattle.broadcastnet.specs.Page.{Row}
 use Rattle.broadcastnet.specs.Unchanged.{Unchanged, unchanged}
 use Rattle.broadcastnet.proofs.Refines.{image-step, one-step}
 use Rattle.engine.specs.declared.Tally.{Tally}
 use Rattle.engine.specs.declared.Answer.{Answer}
 use Rattle.engine.specs.Start.{beginOf}
-use Rattle.engine.specs.StartPageLaws.{begin-opens}
+use Rattle.pages.specs.StartPageLaws.{begin-opens}
 use Rattle.engine.specs.Run.{runOf, Ends}
-use Rattle.engine.specs.RunReached.{reached, turnAt, reached-sound}
+use Rattle.pages.specs.RunReached.{reached, turnAt, reached-sound}
 use Rattle.engine.specs.Imaging.{imageAnswerOf, imagedOf}
-use Rattle.engine.specs.RunPage.{netIn, tableIn, RunDone}
-use Rattle.engine.specs.RunPageLaws.{page-turn, run-page}
-use Rattle.engine.specs.ImagePage.{Imaged, ImagesAlong, ImagePage}
+use Rattle.pages.specs.RunPage.{netIn, tableIn, RunDone}
+use Rattle.pages.specs.RunPageLaws.{page-turn, run-page}
+use Rattle.pages.specs.ImagePage.{Imaged, ImagesAlong, ImagePage}
 
 -- ---- the image of a state's bytes
 

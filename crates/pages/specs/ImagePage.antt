@@ -17,11 +17,11 @@ use Rattle.broadcastnet.specs.Broadcast.{Step}
 use Rattle.broadcastnet.specs.Commit.{image, imageNet}
 use Rattle.broadcastnet.specs.Page.{Row}
 use Rattle.broadcastnet.specs.Unchanged.{Unchanged}
 use Rattle.engine.specs.declared.Answer.{Answer}
 use Rattle.engine.specs.Alone.{checked}
 use Rattle.engine.specs.Imaging.{imageAnswerOf, imagedOf}
-use Rattle.engine.specs.RunReached.{reached}
-use Rattle.engine.specs.RunPage.{netIn, tableIn}
+use Rattle.pages.specs.RunReached.{reached}
+use Rattle.pages.specs.RunPage.{netIn, tableIn}
 
 -- What `relay_image` makes of a state's bytes s that say the network n, with a second buffer of 5,120 bytes.
 pub record Imaged (s : List ℕ) (n : Network) : Type 0 where

@@ -13,10 +13,10 @@ use Rattle.network.specs.declared.Network.{Network}
 use Rattle.network.specs.declared.Table.{Table}
 use Rattle.events.specs.Event.{readOf, readAt, fieldsAt, decodeOf}
 use Rattle.events.specs.RoundTrip.{read-inside}
 use Rattle.engine.specs.declared.Tally.{Tally}
 use Rattle.engine.specs.Run.{zeroTally, Final, stopsAt, allDone, runFrom, runAll}
 use Rattle.engine.specs.RunLaws.{outcomeAt, tallyAfter}
-use Rattle.engine.specs.RunStops.{Stops, run-refused}
+use Rattle.pages.specs.RunStops.{Stops, run-refused}
 
 -- a record is its 16 bytes
 fields-same : (l r : List ℕ) (at : ℕ) → ((i : ℕ) → i < at + 16 → getD l i 0 ≡ getD r i 0) → fieldsAt l at ≡ fieldsAt r at

@@ -22,12 +22,12 @@ use Rattle.events.specs.Kind.{alike}
 use Rattle.floodnet.specs.Step.{refusal, effect, deliveriesOf}
 use Rattle.transitions.specs.Page.{FloodnetPage}
 use Rattle.floodnet.specs.View.{pairs}
 use Rattle.engine.specs.declared.Tally.{Tally}
 use Rattle.engine.specs.declared.Answer.{Answer}
 use Rattle.engine.specs.Start.{beginOf}
 use Rattle.engine.specs.Run.{runOf}
 use Rattle.engine.specs.RunCounts.{kindAt}
-use Rattle.engine.specs.RunReached.{reached, turnAt}
+use Rattle.pages.specs.RunReached.{reached, turnAt}
 
 -- The network that a state's bytes say, and the table that a table's bytes say.
 abbrev pub netIn : List ℕ → Network

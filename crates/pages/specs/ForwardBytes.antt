@@ -13,20 +13,21 @@ use Rattle.network.specs.Network.{Rows}
 use Rattle.network.specs.Sound.{Sound}
 use Rattle.network.specs.SoundLaws.{pending-peer, pending-message}
 use Rattle.events.specs.declared.Event.the-variants as events
-use Rattle.events.specs.Event.{fieldsAt, decodeOf, readAt}
+use Rattle.events.specs.Event.{readOf, fieldsAt, decodeOf, readAt}
 use Rattle.events.specs.Writing.{recordOf}
-use Rattle.events.specs.RoundTrip.{read-inside, read-taken, record-length, read-record}
+use Rattle.events.specs.ReadingLaws.{taken-inside}
+use Rattle.events.specs.RoundTrip.{read-inside, record-length, read-record}
 use Rattle.drain.specs.Reach.{Forward, by, after, Accepted}
 use Rattle.drain.specs.ReachWords.{accepted-pending}
 use Rattle.drain.specs.ReachLaws.{reach}
 use Rattle.engine.specs.declared.Answer.{Answer}
 use Rattle.engine.specs.declared.Tally.{Tally}
 use Rattle.engine.specs.Start.{beginOf}
 use Rattle.engine.specs.Run.{runOf}
 use Rattle.engine.specs.DrainingLaws.{begun-rows, begun-sound}
 use Rattle.engine.specs.ForwardAlone.{forward-fits}
-use Rattle.engine.specs.ReachPage.{ForwardsAt, ForwardRecords, ForwardsLeave}
-use Rattle.engine.specs.ReachPageLaws.{run-accepts, run-forwards}
+use Rattle.pages.specs.ReachPage.{ForwardsAt, ForwardRecords, ForwardsLeave}
+use Rattle.pages.specs.ReachPageLaws.{run-accepts, run-forwards}
 
 unfoldable pub recordsOf : List Forward → List ℕ
 recordsOf [] = []
@@ -58,7 +59,8 @@ module _ (r ev : List ℕ) (h : length r ≡ 16) where
       }
 
   read-first : readAt (r ++ ev) 0 ≡ readAt r 0
-  read-first = read-inside (r ++ ev) 0 (omega (arith, length-append r ev)) ∙ ap decodeOf first-fields ∙ sym (read-inside r 0 (omega arith))
+  unfolding readAt
+  read-first = ap readOf (read-inside (r ++ ev) 0 (omega (arith, length-append r ev)) ∙ ap decodeOf first-fields ∙ sym (read-inside r 0 (omega arith)))
 
   -- and the others after it
   next-at : (i : ℕ) → getD (r ++ ev) (16 + i) 0 ≡ getD ev i 0
@@ -94,14 +96,16 @@ module _ (r ev : List ℕ) (h : length r ≡ 16) where
       word k = rw (on k) (next-le 4 (i + k))
 
   read-next : (place : ℕ) → place < length ev / 16 → readAt (r ++ ev) (place + 1) ≡ readAt ev place
+  unfolding readAt
   read-next place l =
       let e : (place + 1) * 16 ≡ 16 + place * 16 = omega arith in
-      read-inside (r ++ ev) (place + 1) (omega (arith, length-append r ev)) ∙ ap (λ (k : ℕ). decodeOf (fieldsAt (r ++ ev) k)) e
-      ∙ ap decodeOf (next-fields (place * 16)) ∙ sym (read-inside ev place l)
+      ap readOf
+      (read-inside (r ++ ev) (place + 1) (omega (arith, length-append r ev)) ∙ ap (λ (k : ℕ). decodeOf (fieldsAt (r ++ ev) k)) e
+      ∙ ap decodeOf (next-fields (place * 16)) ∙ sym (read-inside ev place l))
 
   later : (place : ℕ) (l : List Forward) → ForwardsAt ev place l → ForwardsAt (r ++ ev) (place + 1) l
   later place [] f = tt
-  later place (by p m ∷ l) f = (read-next place (read-taken ev place _ (f .0) .0) ∙ f .0, later (place + 1) l (f .1))
+  later place (by p m ∷ l) f = (read-next place (taken-inside ev place _ (f .0)) ∙ f .0, later (place + 1) l (f .1))
 
 -- ---- the records of a list
 

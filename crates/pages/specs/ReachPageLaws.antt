@@ -27,20 +27,20 @@ use Rattle.floodnet.specs.Refusals.{refusalForward}
 use Rattle.drain.specs.Reach.{Forward, by, after, Accepted, Quiet}
 use Rattle.drain.specs.ReachWords.{accepted-pending}
 use Rattle.drain.specs.ReachLaws.{reach}
 use Rattle.engine.specs.declared.Answer.{Answer}
 use Rattle.engine.specs.declared.Tally.{Tally}
 use Rattle.engine.specs.declared.Begun.{Begun}
 use Rattle.engine.specs.Start.{beginOf}
 use Rattle.engine.specs.StartFacts.{begin-by}
 use Rattle.engine.specs.Run.{zeroTally, turnOf, Final, runFrom, runAll, Ending, written, untouched, runOf}
 use Rattle.engine.specs.RunLaws.{outcomeAt, tallyAfter, run-on, run-stops}
-use Rattle.engine.specs.Alone.{forwardOf}
+use Rattle.engine.specs.Alone.{forwardOn, forwardOf}
 use Rattle.engine.specs.ForwardAlone.{forward-number, forward-after}
-use Rattle.engine.specs.ForwardRun.{forward-passed}
+use Rattle.pages.specs.ForwardRun.{forward-passed}
 use Rattle.engine.specs.declared.Drained.{Drained}
 use Rattle.engine.specs.DrainingLaws.{begun-sound}
-use Rattle.engine.specs.DrainingReach.{begun-reach, drain-page}
-use Rattle.engine.specs.ReachPage.{ForwardsAt, ForwardRecords, forwardsOf, AllPass, ForwardsLeave}
+use Rattle.pages.specs.DrainingReach.{begun-reach, drain-page}
+use Rattle.pages.specs.ReachPage.{ForwardsAt, ForwardRecords, forwardsOf, AllPass, ForwardsLeave}
 
 -- ---- what the bytes after accepted forwards are
 
@@ -175,7 +175,7 @@ read-both s t =
 -- an accepted forward, called alone
 alone-passes : (s t : List ℕ) (p : Peer) (m : Message) → beginOf s t 0 .number ≡ 0 → p .0 < 32 → m .0 < 64 → refusalForward (beginOf s t 0 .network) p m ≡ 0
     → forwardOf s t (p .0) (m .0) .answer .number ≡ 0
-unfolding forwardOf
+unfolding forwardOf forwardOn
 alone-passes s t p m z l k e = rw (z, lt-ltb (p .0) 32 l, lt-ltb (m .0) 64 k, e)
 
 module _ (t : List ℕ) (e : length t ≡ 256) (f : listOf t .number ≡ 0) where

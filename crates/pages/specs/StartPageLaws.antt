@@ -20,11 +20,11 @@ use Rattle.network.specs.Rows.{rowRight, badRow, listOf}
 use Rattle.network.specs.OpenedSound.{accepted}
 use Rattle.network.specs.Opening.{open-5, open-0}
 use Rattle.network.specs.Listing.{Right, row-why, row-is, row-not, list-4, list-0}
 use Rattle.engine.specs.declared.Begun.{Begun}
 use Rattle.engine.specs.Start.{beginOf}
 use Rattle.engine.specs.StartLaws.{begin-1, begin-2, begin-3, begin-4, begin-5, begin-0}
 use Rattle.engine.specs.StartFacts.{begin-by}
-use Rattle.engine.specs.StartPage.{RowsRight, RecordsSound, Lengths, Starts, all-right, state-length, table-length, events-length, wrong-row, unsound-record, StartPage}
+use Rattle.pages.specs.StartPage.{RowsRight, RecordsSound, Lengths, Starts, all-right, state-length, table-length, events-length, wrong-row, unsound-record, StartPage}
 
 -- ---- reading the table
 

@@ -28,18 +28,18 @@ use Rattle.events.specs.Event.{readingOf}
 use Rattle.events.specs.Kind.{kindOf, alike}
 use Rattle.floodnet.specs.Step.{refusal, effect, ifAccepted, after, deliveriesOf, turned, turnedOf}
 use Rattle.transitions.specs.PageLaws.{floodnet-page}
 use Rattle.engine.specs.declared.Tally.{Tally}
 use Rattle.engine.specs.declared.Answer.{Answer}
 use Rattle.engine.specs.Start.{beginOf}
 use Rattle.engine.specs.StartFacts.{begin-rows, begin-sound}
-use Rattle.engine.specs.StartPageLaws.{begin-lengths, begin-read, begin-same}
+use Rattle.pages.specs.StartPageLaws.{begin-lengths, begin-read, begin-same}
 use Rattle.engine.specs.Run.{zeroTally, turnOf, Final, allDone, runAll, written, runOf, Ends}
-use Rattle.engine.specs.RunStops.{Stops, run-refused}
+use Rattle.pages.specs.RunStops.{Stops, run-refused}
 use Rattle.engine.specs.RunCounts.{kindAt, kinds, Counts, run-counts}
 use Rattle.engine.specs.RunSound.{Keeps, run-keeps}
-use Rattle.engine.specs.RunBefore.{refused-after}
-use Rattle.engine.specs.RunReached.{reached, Along, run-along, reached-sound}
-use Rattle.engine.specs.RunPage.{netIn, tableIn, RunRefused, RunDone, TurnPage, AlongPage, RunPage}
+use Rattle.pages.specs.RunBefore.{refused-after}
+use Rattle.pages.specs.RunReached.{reached, Along, run-along, reached-sound}
+use Rattle.pages.specs.RunPage.{netIn, tableIn, RunRefused, RunDone, TurnPage, AlongPage, RunPage}
 
 -- the record at a place
 turned-number : (k : ℕ) (kind : Kind) (d : ℕ) → turned k kind d .number ≡ k

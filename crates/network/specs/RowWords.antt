@@ -13,7 +13,8 @@ use Rattle.sets.specs.Least.{lowestOf, lowestOf-same}
 use Rattle.lists.specs.Tab.{tab, getD-tab, tab-same}
 use Rattle.endian.specs.Le.{Bytes, le, le-4}
 use Rattle.network.specs.declared.Table.{Table}
-use Rattle.network.specs.Rows.{byteIn, rowRight, badRow, columns, tableOf}
+use Rattle.network.specs.Network.{table}
+use Rattle.network.specs.Rows.{byteIn, rowRight, badRow, tableOf}
 use Rattle.network.specs.Listing.{first-byte, row-why, row-is}
 
 -- the four bytes of row r as a number, the lowest first
@@ -29,7 +30,7 @@ unfoldable pub badWord : List ℕ → ℕ
 badWord ws = lowestOf 64 (λ (r : ℕ). not (wordRight (getD ws r 0)))
 
 unfoldable pub wordsTable : List ℕ → Table
-wordsTable ws = columns (tab 64 (λ (r : ℕ). getD ws r 0 % 256)) (tab 64 (λ (r : ℕ). getD ws r 0 / 256 % 256))
+wordsTable ws = table (tab 64 (λ (r : ℕ). getD ws r 0 % 256)) (tab 64 (λ (r : ℕ). getD ws r 0 / 256 % 256))
 
 -- ---- it comes to the same
 

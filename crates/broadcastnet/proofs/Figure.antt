@@ -11,7 +11,7 @@ use Rattle.network.specs.declared.Network.{Network}
 use Rattle.network.specs.declared.Table.{Table}
 use Rattle.network.specs.Network.{mk, peer, message, originOf}
 use Rattle.network.specs.State.{blankNet}
-use Rattle.network.specs.Rows.{columns}
+use Rattle.network.specs.Network as network
 use Rattle.events.specs.declared.Event.{Event}
 use Rattle.events.specs.declared.Event.the-variants.{Produce, Forward, Unsubscribe, Leave, Join}
 use Rattle.floodnet.specs.Produce.{holders, isNew, produced}
@@ -25,7 +25,7 @@ use Rattle.broadcastnet.specs.Commit.{together, underway, without, image
 
 -- message 5 is of topic 0, and its origin is peer 1
 abbrev pub table : Table
-table = columns (replicate 64 0) (replicate 64 1)
+table = network.table (replicate 64 0) (replicate 64 1)
 
 -- the events one after another: the sum of their refusals, and the network at the end
 unfoldable pub course : Network → List Event → ℕ × Network

@@ -7,16 +7,16 @@ use native.Mathlib.Omega.{arith}
 use lib.ListN.{length, getD, set}
 use lib.Seq.{getD-set-same, set-getD}
 use Rattle.sets.specs.Set.{union, minus, only}
-use Rattle.sets.specs.Bounds.{minus-lt}
+use Rattle.sets.specs.laws.Bounds.{minus-lt}
 use Rattle.lists.specs.Edit.{edit}
 use Rattle.network.specs.declared.Peer.{Peer}
 use Rattle.network.specs.declared.Network.{Network}
 use Rattle.network.specs.Network.{pendingOf, present}
 use Rattle.network.specs.Sound.{Sound}
-use Rattle.network.specs.SoundLaws.{present-peer}
+use Rattle.network.specs.laws.SoundLaws.{present-peer}
 use Rattle.floodnet.specs.Topics.{subscribedTo, unsubscribedFrom}
 use Rattle.floodnet.specs.Links.{linkDown, linkUp, placed, cleared, left, joined}
-use Rattle.floodnet.specs.LeaveJoin.{joined-is}
+use Rattle.floodnet.specs.laws.LeaveJoin.{joined-is}
 use Rattle.broadcastnet.specs.Broadcast.{bn, subscribe, unsubscribe, leave, join}
 use Rattle.broadcastnet.specs.Commit.{together, underway, without, image}
 use Rattle.broadcastnet.specs.Page.{SubscribeRow, UnsubscribeRow, LeaveRow, JoinRow}

@@ -6,23 +6,23 @@ use native.Mathlib.Decide.{ℕ-discrete}
 use lib.Dec.{eqb}
 use lib.ListN.{length-set}
 use Rattle.sets.specs.Set.{has, Subset}
-use Rattle.sets.specs.Bools.{eqb-same, ne-eqb}
-use Rattle.sets.specs.Any.{any-same}
-use Rattle.lists.specs.Edit.{length-edit}
+use Rattle.sets.specs.laws.Bools.{eqb-same, ne-eqb}
+use Rattle.sets.specs.laws.Any.{any-same}
+use Rattle.lists.specs.laws.Edit.{length-edit}
 use Rattle.network.specs.declared.Peer.{Peer}
 use Rattle.network.specs.declared.Message.{Message}
 use Rattle.network.specs.declared.Network.{Network}
 use Rattle.network.specs.declared.Table.{Table}
 use Rattle.network.specs.Network.{peer, present, pending, saw, Shaped, Rows}
 use Rattle.network.specs.Sound.{Sound}
-use Rattle.network.specs.SoundLaws.{present-peer, pending-peer, saw-present}
+use Rattle.network.specs.laws.SoundLaws.{present-peer, pending-peer, saw-present}
 use Rattle.floodnet.specs.Produce.{isNew, produced}
-use Rattle.floodnet.specs.ProduceLaws.{new-nowhere, produced-pending}
+use Rattle.floodnet.specs.laws.ProduceLaws.{new-nowhere, produced-pending}
 use Rattle.floodnet.specs.Forward.{moved, given, forwarded}
-use Rattle.floodnet.specs.ForwardLaws.{forwarded-present, forwarded-saw, forwarded-pending, forwarded-sound}
+use Rattle.floodnet.specs.laws.ForwardLaws.{forwarded-present, forwarded-saw, forwarded-pending, forwarded-sound}
 use Rattle.broadcastnet.specs.Broadcast.{sawIn, NewIn, broadcastPartial}
 use Rattle.broadcastnet.specs.Commit.{somewhere, whoSaw, image}
-use Rattle.broadcastnet.specs.CommitLaws.{bn-same, partial-saw, somewhere-yes, image-saw, image-length, image-same, has-whoSaw, whoSaw-lt}
+use Rattle.broadcastnet.specs.laws.CommitLaws.{bn-same, partial-saw, somewhere-yes, image-saw, image-length, image-same, has-whoSaw, whoSaw-lt}
 use Rattle.broadcastnet.specs.Page.{ForwardRow}
 
 -- ---- produce

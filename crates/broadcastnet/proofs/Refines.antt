@@ -3,7 +3,7 @@ use mathlib.Core.Path.{_≡_, refl}
 use mathlib.Core.Logic.{_⊎_, inl, inr}
 use mathlib.Core.Bool.{true, false}
 use mathlib.Core.List.{List, [], _∷_}
-use Rattle.sets.specs.Bools.{either}
+use Rattle.sets.specs.laws.Bools.{either}
 use Rattle.network.specs.declared.Network.{Network}
 use Rattle.network.specs.declared.Table.{Table}
 use Rattle.network.specs.Network.{Rows}
@@ -12,10 +12,10 @@ use Rattle.events.specs.declared.Event.{Event}
 use Rattle.events.specs.declared.Event.the-variants.{Skip, Produce, Forward, Subscribe, Unsubscribe, Leave, Join}
 use Rattle.events.specs.Fits.{EventFits}
 use Rattle.floodnet.specs.Step.{refusal, effect}
-use Rattle.floodnet.specs.StepLaws.{produce-met, forward-met, topics-met, leave-met, join-met, effect-sound}
+use Rattle.floodnet.specs.laws.StepLaws.{produce-met, forward-met, topics-met, leave-met, join-met, effect-sound}
 use Rattle.broadcastnet.specs.Broadcast.{Broadcastnet, Step, rel-skip, rel-broadcast-partial, rel-subscribe, rel-unsubscribe, rel-leave, rel-join}
 use Rattle.broadcastnet.specs.Commit.{somewhere, whoSaw, image}
-use Rattle.broadcastnet.specs.CommitLaws.{image-quiet}
+use Rattle.broadcastnet.specs.laws.CommitLaws.{image-quiet}
 use Rattle.broadcastnet.specs.Page.{Row, Accepted, effects, images, Path, Related, Refines}
 use Rattle.broadcastnet.proofs.Messages.{image-produced, forward-row}
 use Rattle.broadcastnet.proofs.Members.{subscribe-row, unsubscribe-row, leave-row, join-row}

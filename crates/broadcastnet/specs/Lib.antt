@@ -1,6 +1,5 @@
 pub mod Broadcast
 pub mod Commit
 pub mod Page
-pub mod CommitLaws
-pub mod ImageNet
 pub mod Unchanged
+pub mod laws

@@ -25,7 +25,8 @@ use Rattle.broadcastnet.specs.Commit.{together, underway, without, image}
 use Rattle.drain.specs.Drain.{drainOf, quietOf}
 use Rattle.engine.specs.Run.{talliedOf, turnOf, runFrom, runAll}
 use Rattle.cases.specs.Rows.{join, produce, forward, leave, H, bytes, Row, answers, image-as, neighbours, drains, Each}
-use Rattle.cases.specs.Worked.{ended, small, proper, same, alike, answer-is, images-are, drained-is, works, every, each-holds, each-both}
+use Rattle.cases.specs.Worked.{ended, small, proper, same, alike, answer-is, images-are, drained-is, works, every}
+use Rattle.cases.specs.laws.Worked.{each-holds, each-both}
 
 pub A7 : List Fields → List Fields
 A7 more = H (produce 0 5 ∷ forward 0 5 ∷ leave 0 ∷ more)

@@ -1,3 +1,4 @@
 pub mod Rows
 pub mod Worked
 pub mod Cases
+pub mod laws

@@ -1,3 +1,2 @@
 pub mod Console
-pub mod ConsoleLaws
-pub mod Settled
+pub mod laws

@@ -6,7 +6,7 @@ use Prim.Native.Nat.{ℕ}
 use Rattle.flooding.specs.Machine.{Pair, Drained, run}
 use Rattle.network.specs.declared.Network.{Network}
 use Rattle.floodnet.specs.View.{fwd}
-use Rattle.floodnet.specs.CodeForward.{withMessages}
+use Rattle.floodnet.specs.Lent.{withMessages}
 use Rattle.network.specs.Network.{table}
 use Rattle.drain.specs.declared.Drains.{Drains}
 use Rattle.drain.specs.Drain.{drainWithin, quietOf}

@@ -1,11 +1,6 @@
 pub mod Drain
 pub mod Reach
-pub mod ReachWords
-pub mod ReachLaws
 pub mod Pairs
 pub mod AtOnce
-pub mod AtOnceForwards
-pub mod Turns
-pub mod DrainLaws
 pub mod Lent
-pub mod LentLaws
+pub mod laws

@@ -1,5 +1,5 @@
 -- The single forward, and reading and writing, as entry points (document 01, "Events", "Records"). Assumes nothing.
-use mathlib.Core.Bool.{Bool, cond, _&&_}
+use mathlib.Core.Bool.{cond, _&&_}
 use mathlib.Core.List.{List}
 use Prim.Native.Nat.{ℕ}
 use lib.Dec.{eqb, ltb}
@@ -10,10 +10,10 @@ use Rattle.network.specs.Network.{peer, message}
 use Rattle.network.specs.State.{openOf, bytesOf}
 use Rattle.floodnet.specs.Refusals.{refusalForward}
 use Rattle.floodnet.specs.Forward.{forwarded, deliveries}
-use Rattle.engine.specs.declared.Begun.{Begun}
 use Rattle.engine.specs.declared.Forwarded.{Forwarded}
 use Rattle.engine.specs.declared.Checked.{Checked}
 use Rattle.engine.specs.Start.{beginOf}
+use mathlib.Core.Path.{_≡_}
 
 -- an answer, and the buffer that goes with it
 pub record Forwards : Type 0 where
@@ -57,3 +57,11 @@ copyOf s to = cond (eqb (openOf s .number) 0) (cond (eqb (length to) 5120) (chec
 
 unfoldable pub copiedOf : List ℕ → List ℕ → List ℕ
 copiedOf s to = cond (eqb (openOf s .number) 0) (cond (eqb (length to) 5120) (bytesOf (openOf s .network)) to) to
+
+-- an answer by its parts
+abbrev pub forwardedBy : ℕ → ℕ → ℕ → Forwarded
+forwardedBy number place d = record { number = number; place = place; deliveries = d }
+
+-- what the function answers and leaves
+abbrev pub Gives : Forwarded → List ℕ → Forwards → Type 0
+Gives r s f = (r ≡ f .answer) × (s ≡ f .state)

@@ -4,7 +4,7 @@
 --   "The host lends a tally record that the engine updates event by event: produced, forwards, deliveries, 64 bits each. It
 --   starts from zero in each run that gets past 5."
 use mathlib.Core.Path.{_≡_}
-use mathlib.Core.Bool.{Bool, true, false, cond}
+use mathlib.Core.Bool.{cond}
 use mathlib.Core.List.{List}
 use Prim.Native.Nat.{ℕ, zero, suc, _+_, _/_, _^_, _<_}
 use lib.Dec.{eqb}
@@ -18,12 +18,14 @@ use Rattle.events.specs.Event.{readingOf, readAt}
 use Rattle.events.specs.declared.kind.Kind.{Kind}
 use Rattle.events.specs.declared.kind.Kind.the-variants.{Skip, Produce, Forward, Subscribe, Unsubscribe, Leave, Join}
 use Rattle.floodnet.specs.declared.Turned.{Turned}
-use Rattle.floodnet.specs.Step.{after, turnedOf}
+use Rattle.floodnet.specs.Step.{after, turnedOf, turned}
 use Rattle.engine.specs.declared.Tally.{Tally}
 use Rattle.engine.specs.declared.Answer.{Answer}
 use Rattle.engine.specs.declared.Begun.{Begun}
 use Rattle.engine.specs.declared.Ran.{Ran}
 use Rattle.engine.specs.Start.{beginOf}
+use Rattle.events.specs.declared.Event.the-variants.{Skip, Produce, Forward, Subscribe, Unsubscribe, Leave, Join}
+use Rattle.events.specs.Fits.{EventFits}
 
 -- ---- the tally
 
@@ -133,3 +135,10 @@ pub record Ends (r : Answer) (s : List ℕ) (t : Tally) (e : Ending) : Type 0 wh
   pub answer : r ≡ e .answer
   pub state : s ≡ e .state
   pub tally : t ≡ e .tally
+
+-- what was read from bytes is an event in range, or none
+unfoldable pub ReadFits : Read → Type 0
+ReadFits (Taken e) = EventFits e
+ReadFits End = Unit {0}
+ReadFits Unknown = Unit {0}
+ReadFits Unfit = Unit {0}

@@ -6,7 +6,7 @@ ghost use lib.ListN.{length, getD};
 ghost use Rattle.network.specs.Network.{mk};
 ghost use Rattle.network.specs.Network.{table};
 ghost use Rattle.engine.specs.Alone.{checked, checkOf, copyOf, copiedOf, forwardOn, forwardOf};
-ghost use Rattle.engine.specs.ForwardAlone.{forwardedBy, Gives};
+ghost use Rattle.engine.specs.Alone.{forwardedBy, Gives};
 use crate::Checked;
 use crate::Forwarded;
 use crate::start;

@@ -6,7 +6,7 @@ ghost use lib.ListN.{length};
 ghost use Rattle.network.specs.Network.{mk, Rows};
 ghost use Rattle.network.specs.Network.{table};
 ghost use Rattle.engine.specs.Run.{tally, answered, refusedBy, turnOf, ran, runAll, RunsTo, written, runOf, Ends};
-ghost use Rattle.engine.specs.RunSound.{ReadFits};
+ghost use Rattle.engine.specs.Run.{ReadFits};
 use crate::Answer;
 use crate::Ran;
 use crate::counts;

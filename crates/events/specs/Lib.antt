@@ -1,10 +1,5 @@
 pub mod Event
 pub mod Kind
 pub mod Writing
-pub mod ReadingLaws
 pub mod Fits
-pub mod Decoded
-pub mod Bytes
-pub mod RoundTrip
-pub mod Settled
-pub mod Examples
+pub mod laws

@@ -6,9 +6,10 @@ use Prim.Native.Nat.{ℕ, zero, suc, _+_, _*_, _≤_, _<_}
 use native.Mathlib.Omega.{arith}
 use lib.Dec.{eqb}
 use lib.ListN.{length}
-use Rattle.sets.specs.Bools.{not-false, eqb-same, ne-eqb}
+use Rattle.sets.specs.laws.Bools.{not-false, eqb-same, ne-eqb}
 use Rattle.sets.specs.Set.{digit}
-use Rattle.sets.specs.Sums.{sum, sum-same, sum-drop, sum-lt, sum-bound, sum-member}
+use Rattle.sets.specs.Sums.{sum}
+use Rattle.sets.specs.laws.Sums.{sum-same, sum-drop, sum-lt, sum-bound, sum-member}
 use Rattle.flooding.specs.Network.{Net, Sound, at, forward, Quiet}
 use Rattle.flooding.specs.Counts.{unseenPairs}
 use Rattle.flooding.specs.Machine.{Pair, pair, run, todo, round, rounds}

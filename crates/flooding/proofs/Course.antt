@@ -6,11 +6,12 @@ use mathlib.Core.List.{List, [], _++_}
 use Prim.Native.Nat.{ℕ, zero, suc, _≤_, _<_}
 use native.Mathlib.Omega.{arith}
 use lib.ListN.{length, length-append}
-use Rattle.sets.specs.Bools.{clash, or-yes}
+use Rattle.sets.specs.laws.Bools.{clash, or-yes}
 use Rattle.flooding.specs.Network.{Net, Sound, forward, Quiet, Reached, Shortest}
 use Rattle.flooding.specs.Counts.{unseenPairs}
-use Rattle.flooding.specs.Machine.{Pair, run, itself, row, todo, round, rounds}
-use Rattle.flooding.specs.Loop.{run-append}
+use Rattle.flooding.specs.Machine.{Pair, run, row, todo, round, rounds}
+use Rattle.flooding.specs.laws.Machine.{itself}
+use Rattle.flooding.specs.laws.Loop.{run-append}
 use Rattle.flooding.proofs.Run.{after, Accepted, accepts-append, same-end, chain-unseen}
 use Rattle.flooding.proofs.Round.{netRounds, todo-accepted, sound-after, sound-rounds, round-seen}
 use Rattle.flooding.proofs.Levels.{level}

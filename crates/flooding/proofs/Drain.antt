@@ -8,9 +8,10 @@ use native.Mathlib.Omega.{arith}
 use lib.ListN.{length, take, length-append, length-take}
 use Rattle.flooding.specs.Network.{Net, Quiet}
 use Rattle.flooding.specs.Counts.{unseenPairs}
-use Rattle.flooding.specs.Machine.{Pair, run, due, round, rounds, Drained, stopped, more, cut, drain, Machine}
+use Rattle.flooding.specs.Machine.{Pair, run, due, round, rounds, Drained, stopped, more, cut, drain}
+use Rattle.flooding.specs.laws.Machine.{Machine}
 use Rattle.flooding.specs.Page.{Drains, Finishes}
-use Rattle.flooding.specs.Loop.{ways, run-append, drain-stop, drain-round, drain-cut}
+use Rattle.flooding.specs.laws.Loop.{ways, run-append, drain-stop, drain-round, drain-cut}
 use Rattle.flooding.proofs.Run.{accepts-append, accepts-take, mem}
 use Rattle.flooding.proofs.Round.{todo-mem}
 use Rattle.flooding.proofs.Count.{unseen-bound}

@@ -5,10 +5,11 @@ use Prim.Native.Nat.{ℕ}
 use native.Mathlib.Omega.{arith}
 use lib.Dec.{eqb, ltb}
 use borrow.Author.Tests.{eqb-true, ltb-true}
-use Rattle.sets.specs.Bools.{and-yes, or-yes, clash}
+use Rattle.sets.specs.laws.Bools.{and-yes, or-yes, clash}
 use mathlib.Core.Logic.{_⊎_, inl, inr}
 use Rattle.flooding.specs.Network.{Net, Sound, forward}
-use Rattle.flooding.specs.Machine.{itself, run, row, todo, round, drain}
+use Rattle.flooding.specs.Machine.{run, row, todo, round, drain}
+use Rattle.flooding.specs.laws.Machine.{itself}
 use Rattle.flooding.specs.Page.{Floods}
 use Rattle.flooding.proofs.Floods.{net-machine, floods}
 

@@ -8,7 +8,8 @@ use native.Mathlib.Omega.{arith}
 use lib.ListN.{length}
 use Rattle.flooding.specs.Network.{Net, Sound, forward, Quiet, Chain, holds, Reached, Linked}
 use Rattle.flooding.specs.Counts.{unseenPairs}
-use Rattle.flooding.specs.Machine.{Pair, pair, run, Accepts, itself, todo, due, round, rounds, Machine}
+use Rattle.flooding.specs.Machine.{Pair, pair, run, Accepts, todo, due, round, rounds}
+use Rattle.flooding.specs.laws.Machine.{itself, Machine}
 use Rattle.flooding.specs.Page.{Floods}
 use Rattle.flooding.proofs.Run as runs
 use Rattle.flooding.proofs.Run.{after, Accepted}

@@ -4,7 +4,7 @@ use mathlib.Core.Logic.{_⊎_, inl, inr}
 use mathlib.Core.Bool.{true, false, _||_}
 use Prim.Native.Nat.{ℕ, zero, suc, _<_}
 use native.Mathlib.Omega.{arith}
-use Rattle.sets.specs.Bools.{either, clash, not-false, or-yes, or-right, below-suc}
+use Rattle.sets.specs.laws.Bools.{either, clash, not-false, or-yes, or-right, below-suc}
 use Rattle.flooding.specs.Network.{Net, Sound, link, Chain, holds, link-to, Shortest}
 use Rattle.flooding.specs.Machine.{rounds}
 use Rattle.flooding.proofs.Run.{chain-unseen}

@@ -7,10 +7,11 @@ use Prim.Native.Nat.{ℕ, zero, suc, _<_}
 use native.Mathlib.Omega.{arith}
 use lib.Dec.{eqb}
 use borrow.Author.Tests.{eqb-true}
-use Rattle.sets.specs.Bools.{clash, not-false, bool-ext, and-yes, or-yes, or-right, not-yes, eqb-same, below-suc}
+use Rattle.sets.specs.laws.Bools.{clash, not-false, bool-ext, and-yes, or-yes, or-right, not-yes, eqb-same, below-suc}
 use Rattle.flooding.specs.Network.{Net, Sound, link, at, forward}
-use Rattle.flooding.specs.Machine.{Pair, pair, run, itself, row, todo, round, rounds}
-use Rattle.flooding.specs.Loop.{run-append}
+use Rattle.flooding.specs.Machine.{Pair, pair, run, row, todo, round, rounds}
+use Rattle.flooding.specs.laws.Machine.{itself}
+use Rattle.flooding.specs.laws.Loop.{run-append}
 use Rattle.flooding.proofs.Run.{after, Accepted, accepts-append, mem, feeds, feeds-yes, feeds-why, after-seen, after-pending, after-known, after-topic}
 
 -- A network's own rounds.

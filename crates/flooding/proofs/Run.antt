@@ -7,9 +7,10 @@ use Prim.Native.Nat.{ℕ, zero, suc}
 use lib.Dec.{eqb}
 use lib.ListN.{take}
 use borrow.Author.Tests.{eqb-true}
-use Rattle.sets.specs.Bools.{either, clash, bool-ext, and-yes, or-yes, or-no, or-right, not-yes, eqb-same}
+use Rattle.sets.specs.laws.Bools.{either, clash, bool-ext, and-yes, or-yes, or-no, or-right, not-yes, eqb-same}
 use Rattle.flooding.specs.Network.{Net, Sound, link, at, forward, Quiet, Chain, holds, link-to, Reached}
-use Rattle.flooding.specs.Machine.{Pair, pair, run, Accepts, itself}
+use Rattle.flooding.specs.Machine.{Pair, pair, run, Accepts}
+use Rattle.flooding.specs.laws.Machine.{itself}
 
 -- A network's own runs: the network after a list of forwards; a list that it accepts.
 abbrev pub after : Net → List Pair → Net

@@ -11,7 +11,8 @@ use borrow.Author.Tests.{leb-true, leb-false}
 use lib.ListN.{length, take, length-take}
 use Rattle.flooding.specs.Network.{Net, Quiet}
 use Rattle.flooding.specs.Counts.{unseenPairs}
-use Rattle.flooding.specs.Machine.{Pair, run, due, round, rounds, Drained, drain, Machine}
+use Rattle.flooding.specs.Machine.{Pair, run, due, round, rounds, Drained, drain}
+use Rattle.flooding.specs.laws.Machine.{Machine}
 use Rattle.flooding.specs.Page.{Drains}
 use Rattle.flooding.proofs.Run.{accepts-take}
 use Rattle.flooding.proofs.Floods.{due-accepts, rounds-ok, floods}

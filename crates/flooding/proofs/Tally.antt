@@ -8,9 +8,10 @@ use native.Mathlib.Omega.{arith}
 use lib.Dec.{eqb}
 use lib.ListN.{length}
 use borrow.Author.Tests.{eqb-true}
-use Rattle.sets.specs.Bools.{either, eqb-same, ne-eqb}
+use Rattle.sets.specs.laws.Bools.{either, eqb-same, ne-eqb}
 use Rattle.sets.specs.Set.{digit}
-use Rattle.sets.specs.Sums.{sum, sum-same, sum-change, sum-add, sum-drop, sum-zero}
+use Rattle.sets.specs.Sums.{sum}
+use Rattle.sets.specs.laws.Sums.{sum-same, sum-change, sum-add, sum-drop, sum-zero}
 use Rattle.flooding.specs.Network.{Net, Sound, link, forward}
 use Rattle.flooding.specs.Counts.{pendingPairs, gets, delivers, deliveries}
 use Rattle.flooding.specs.Machine.{Pair, pair, run}

@@ -6,9 +6,10 @@ use mathlib.Core.List.{List, [], _∷_}
 use Prim.Native.Nat.{ℕ, zero, suc, _<_}
 use native.Mathlib.Omega.{arith}
 use lib.ListN.{take}
-use Rattle.sets.specs.Bools.{clash, not-false, or-yes, or-right}
+use Rattle.sets.specs.laws.Bools.{clash, not-false, or-yes, or-right}
 use Rattle.flooding.specs.Network.{Net, Sound, at, Chain, Shortest}
-use Rattle.flooding.specs.Machine.{Pair, pair, due, rounds, Drained, Machine}
+use Rattle.flooding.specs.Machine.{Pair, pair, due, rounds, Drained}
+use Rattle.flooding.specs.laws.Machine.{Machine}
 use Rattle.flooding.specs.Page.{Drains, Within}
 use Rattle.flooding.proofs.Run.{accepts-take, mem, after-seen, chain-unseen}
 use Rattle.flooding.proofs.Round.{todo-mem}

@@ -2,4 +2,4 @@ pub mod Network
 pub mod Counts
 pub mod Machine
 pub mod Page
-pub mod Loop
+pub mod laws

@@ -12,8 +12,8 @@ use borrow.Author.Tests.{eqb-true}
 use lib.Dec.{eqb}
 use lib.ListN.{getD, List·getD-eq-default}
 use Rattle.sets.specs.Set.{has, minus}
-use Rattle.sets.specs.Bools.{clash, not-false, and-no, eqb-same, ne-eqb, or-right}
-use Rattle.sets.specs.Members.{has-none}
+use Rattle.sets.specs.laws.Bools.{clash, not-false, and-no, eqb-same, ne-eqb, or-right}
+use Rattle.sets.specs.laws.Members.{has-none}
 use Rattle.network.specs.declared.Peer.{Peer}
 use Rattle.network.specs.declared.Topic.{Topic}
 use Rattle.network.specs.declared.Message.{Message}
@@ -21,9 +21,9 @@ use Rattle.network.specs.declared.Network.{Network}
 use Rattle.network.specs.Network.{peer, topic, spot, pendingOf, seenOf, present, publishes, subscribed, linked, pending, saw, knows}
 use Rattle.network.specs.Sound.{Sound, Empty}
 use Rattle.floodnet.specs.Links.{left, joined}
-use Rattle.floodnet.specs.Places.{spot-of}
+use Rattle.floodnet.specs.laws.Places.{spot-of}
 use Rattle.floodnet.specs.LinksLaws.{between}
-use Rattle.floodnet.specs.LeaveJoin.{left-sound, left-empty, present-left, publishes-left, subscribed-left, pending-left, saw-left, linked-left, knows-left, joined-sound, present-joined, publishes-joined, subscribed-joined, pending-joined, seen-joined, linked-joined, knows-joined}
+use Rattle.floodnet.specs.laws.LeaveJoin.{left-sound, left-empty, present-left, publishes-left, subscribed-left, pending-left, saw-left, linked-left, knows-left, joined-sound, present-joined, publishes-joined, subscribed-joined, pending-joined, seen-joined, linked-joined, knows-joined}
 
 -- From n to m: what does not concern p is as it was.
 pub record Apart (p : Peer) (n m : Network) : Type 0 where

@@ -1,12 +1,11 @@
 -- What `flooding` sees of a network with a message table: its peers, topics and messages are the numbers of these. Assumes nothing.
 use Prim.Native.Nat.{ℕ}
-use mathlib.Core.List.{[]}
 use Rattle.sets.specs.Set.{size}
 use Rattle.sets.specs.Sums.{sum}
 use Rattle.flooding.specs.Network.{Net}
 use Rattle.network.specs.declared.Network.{Network}
 use Rattle.network.specs.declared.Table.{Table}
-use Rattle.network.specs.Network.{withPending, withSeen, peer, topic, message, pendingOf, present, pending, saw, knows, topicOf}
+use Rattle.network.specs.Network.{peer, topic, message, pendingOf, present, pending, saw, knows, topicOf}
 use Rattle.floodnet.specs.Forward.{forwarded}
 
 -- the observations of n, with the topics of b
@@ -23,10 +22,6 @@ view b n =
 -- the engine's own forward, by numbers
 unfoldable pub fwd : Table → Network → ℕ → ℕ → Network
 fwd b n p m = forwarded n b (peer p) (message m)
-
--- what no forward changes
-unfoldable pub rest : Network → Network
-rest n = withSeen (withPending n []) []
 
 -- the pending pairs of n: how many pairs of a peer and a message are pending
 unfoldable pub pairs : Network → ℕ

@@ -4,7 +4,7 @@ ghost use mathlib.Core.Path.{_≡_};
 ghost use Prim.Native.Nat.{_<_};
 ghost use Rattle.sets.specs.Set.{has, only, when, strikes, withIf, sift};
 ghost use Rattle.lists.specs.Edit.{edit};
-ghost use Rattle.floodnet.specs.CodeArrays.{holding};
+ghost use Rattle.floodnet.specs.Lent.{holding};
 use network::Message;
 use network::Peer;
 

@@ -6,7 +6,7 @@ ghost use Rattle.network.specs.declared.Network.{Network};
 ghost use Rattle.network.specs.Network.{withNeighbours, withKnown, withAll};
 ghost use Rattle.floodnet.specs.Topics.{subscribedTo, unsubscribedFrom};
 ghost use Rattle.floodnet.specs.Links.{linkUp, linkDown, cleared, placed, left, joined};
-ghost use Rattle.floodnet.specs.CodeLinks.{withLinks, withTopics};
+ghost use Rattle.floodnet.specs.Lent.{withLinks, withTopics};
 use super::arrays;
 use super::rows;
 use network::Peer;

@@ -8,7 +8,7 @@ ghost use Rattle.network.specs.declared.Network.{Network};
 ghost use Rattle.network.specs.Network.{withPending};
 ghost use Rattle.floodnet.specs.Produce.{produced};
 ghost use Rattle.floodnet.specs.Forward.{receivers, forwarded};
-ghost use Rattle.floodnet.specs.CodeForward.{withMessages};
+ghost use Rattle.floodnet.specs.Lent.{withMessages};
 ghost use Rattle.network.specs.Network.{table};
 use super::arrays;
 use network::Message;

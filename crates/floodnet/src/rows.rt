@@ -7,7 +7,7 @@ ghost use lib.Dec.{eqb};
 ghost use Rattle.sets.specs.Set.{has, only, when, strikes, empties};
 ghost use Rattle.lists.specs.Edit.{edit};
 ghost use Rattle.floodnet.specs.Topics.{noted, struck};
-ghost use Rattle.floodnet.specs.CodeWalks.{learnt};
+ghost use Rattle.floodnet.specs.Lent.{learnt};
 use network::Peer;
 use network::Topic;
 

@@ -1,2 +1,3 @@
 pub mod Tab
 pub mod Edit
+pub mod laws

@@ -5,20 +5,10 @@ pub mod Rules
 pub mod State
 pub mod Rows
 -- what follows for every sound network, every state and every table
-pub mod SoundLaws
-pub mod SoundIff
-pub mod OpenedSound
-pub mod Trips
-pub mod SameNetwork
 pub mod Listing
 -- what the code does in place of a definition, and that it comes to the same
-pub mod Faults
 pub mod RowWords
 pub mod Tests
-pub mod Joining
-pub mod Backing
-pub mod Zeros
 pub mod Layout
-pub mod Opening
 pub mod Storing
-pub mod Writing
+pub mod laws

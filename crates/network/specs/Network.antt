@@ -4,7 +4,7 @@
 --   topic, the known subscribers among its neighbours."
 use mathlib.Core.Path.{_≡_}
 use mathlib.Core.Bool.{Bool}
-use mathlib.Core.List.{List, []}
+use mathlib.Core.List.{List}
 use Prim.Native.Nat.{ℕ, _+_, _*_, _^_, _<_}
 use lib.ListN.{length, getD}
 use Rattle.sets.specs.Set.{has}
@@ -28,10 +28,6 @@ message i = record { 0 = i }
 abbrev pub mk : ℕ → List ℕ → List ℕ → List ℕ → List ℕ → List ℕ → List ℕ → Network
 mk present pubs subs neighbours pending seen known =
     record { present = present; pubs = pubs; subs = subs; neighbours = neighbours; pending = pending; seen = seen; known = known }
-
--- a network to put parts into
-abbrev pub bare : Network
-bare = mk 0 [] [] [] [] [] []
 
 -- n with other parts in place of its own, one or all
 abbrev pub withPresent : Network → ℕ → Network

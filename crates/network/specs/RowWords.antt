@@ -1,21 +1,15 @@
 -- The message table read through words: each row as one number, and what the code asks of the numbers in place of specs/Rows.antt.
 -- Assumes nothing.
-use mathlib.Core.Path.{_≡_, sym, ap, _∙_}
 use mathlib.Core.Bool.{Bool, not, _&&_}
 use mathlib.Core.List.{List}
-use Prim.Native.Nat.{ℕ, _+_, _*_, _/_, _%_, _<_}
-use native.Mathlib.Omega.{arith}
+use Prim.Native.Nat.{ℕ, _*_, _/_, _%_}
 use lib.Dec.{ltb}
 use lib.ListN.{getD}
-use borrow.Author.Tests.{lt-ltb, ltb-true}
-use Rattle.sets.specs.Bools.{bool-ext, and-yes, and-both}
-use Rattle.sets.specs.Least.{lowestOf, lowestOf-same}
-use Rattle.lists.specs.Tab.{tab, getD-tab, tab-same}
-use Rattle.endian.specs.Le.{Bytes, le, le-4}
+use Rattle.sets.specs.Least.{lowestOf}
+use Rattle.lists.specs.Tab.{tab}
+use Rattle.endian.specs.Le.{le}
 use Rattle.network.specs.declared.Table.{Table}
 use Rattle.network.specs.Network.{table}
-use Rattle.network.specs.Rows.{byteIn, rowRight, badRow, tableOf}
-use Rattle.network.specs.Listing.{first-byte, row-why, row-is}
 
 -- the four bytes of row r as a number, the lowest first
 unfoldable pub rowWord : List ℕ → ℕ → ℕ
@@ -31,46 +25,3 @@ badWord ws = lowestOf 64 (λ (r : ℕ). not (wordRight (getD ws r 0)))
 
 unfoldable pub wordsTable : List ℕ → Table
 wordsTable ws = table (tab 64 (λ (r : ℕ). getD ws r 0 % 256)) (tab 64 (λ (r : ℕ). getD ws r 0 / 256 % 256))
-
--- ---- it comes to the same
-
-row-bytes : (b : List ℕ) (r : ℕ) → rowWord b r ≡ byteIn b r 0 + 256 * (byteIn b r 1 + 256 * (byteIn b r 2 + 256 * byteIn b r 3))
-unfolding rowWord
-row-bytes b r = le-4 b (4 * r) ∙ ap (λ (x : ℕ). x + 256 * (byteIn b r 1 + 256 * (byteIn b r 2 + 256 * byteIn b r 3))) (first-byte b r)
-
--- what is asked of a row's number is what is asked of its four bytes
-pub word-right : (b : List ℕ) (r : ℕ) → Bytes b → wordRight (rowWord b r) ≡ rowRight b r
-unfolding wordRight
-word-right b r h =
-    let e = row-bytes b r in
-    let h0 = h (4 * r + 0) in
-    let h1 = h (4 * r + 1) in
-    let h2 = h (4 * r + 2) in
-    let h3 = h (4 * r + 3) in
-    bool-ext
-    (λ t.
-    let p = and-yes (ltb (rowWord b r) 8192) (ltb (rowWord b r % 256) 32) t in
-    let l = ltb-true (rowWord b r) 8192 (p .0) in
-    let k = ltb-true (rowWord b r % 256) 32 (p .1) in
-    sym (row-is b r (record { topic = omega arith; origin = omega arith; third = omega arith; fourth = omega arith })))
-    (λ t.
-    let k = row-why b r t in
-    and-both (lt-ltb (rowWord b r) 8192 (omega arith)) (lt-ltb (rowWord b r % 256) 32 (omega arith)))
-
-module _ (b : List ℕ) {ws : List ℕ} (h : Bytes b) (e : ws ≡ tab 64 (rowWord b)) where
-  at : (r : ℕ) → r < 64 → getD ws r 0 ≡ rowWord b r
-  at r l = ap (λ (x : List ℕ). getD x r 0) e ∙ getD-tab 64 (rowWord b) r l
-
-  pub bad-is : badWord ws ≡ badRow b
-  unfolding badWord badRow
-  bad-is = lowestOf-same 64 _ _ λ r l. ap (λ (w : ℕ). not (wordRight w)) (at r l) ∙ ap not (word-right b r h)
-
-  pub table-is : wordsTable ws ≡ tableOf b
-  unfolding wordsTable tableOf
-  table-is = rw (tab-same 64 (λ (r : ℕ). getD ws r 0 % 256) (λ (r : ℕ). byteIn b r 0) topics, tab-same 64 (λ (r : ℕ). getD ws r 0 / 256 % 256) (λ (r : ℕ). byteIn b r 1) origins)
-    where
-      topics : (r : ℕ) → r < 64 → getD ws r 0 % 256 ≡ byteIn b r 0
-      topics r l = rw (at r l) (omega (arith, row-bytes b r, h (4 * r + 0)))
-
-      origins : (r : ℕ) → r < 64 → getD ws r 0 / 256 % 256 ≡ byteIn b r 1
-      origins r l = rw (at r l) (omega (arith, row-bytes b r, h (4 * r + 0), h (4 * r + 1)))

@@ -61,10 +61,6 @@ faultOf h n p = unless (headRight h) 1 (cond (eqb h 0) (absentFault n p) (presen
 abbrev pub headOf : Network → Peer → ℕ
 headOf n p = digit (present n p)
 
--- the fault of p's record in the working state, whose first words can't be wrong
-abbrev pub faultIn : Network → Peer → ℕ
-faultIn n p = faultOf (headOf n p) n p
-
 -- Record p has a fault, `heads i` being the first word of record i; and the "lowest unsound record", 32 where there is none:
 -- of any first words, and of the working state.
 unfoldable pub faulty : (ℕ → ℕ) → Network → ℕ → Bool

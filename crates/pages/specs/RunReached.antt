@@ -6,20 +6,19 @@ use Prim.Native.Nat.{ℕ, zero, suc, _+_, _/_, _<_}
 use native.Mathlib.Omega.{arith}
 use native.Mathlib.Numerals.{add-one}
 use lib.ListN.{length}
-use Rattle.sets.specs.Bools.{below-suc}
-use Rattle.sets.specs.Sums.{sum, sum-start, sum-more}
-use Rattle.endian.specs.Le.{Bytes}
+use Rattle.sets.specs.laws.Bools.{below-suc}
+use Rattle.sets.specs.Sums.{sum}
+use Rattle.sets.specs.laws.Sums.{sum-start, sum-more}
 use Rattle.network.specs.declared.Network.{Network}
 use Rattle.network.specs.declared.Table.{Table}
-use Rattle.network.specs.Network.{Rows}
-use Rattle.network.specs.Sound.{Sound}
 use Rattle.events.specs.Event.{readAt}
 use Rattle.floodnet.specs.declared.Turned.{Turned}
 use Rattle.engine.specs.declared.Tally.{Tally}
 use Rattle.engine.specs.Run.{zeroTally, Final, runFrom, runAll}
-use Rattle.engine.specs.RunLaws.{outcomeAt, tallyAfter, run-ind}
-use Rattle.engine.specs.RunCounts.{tallied-deliveries}
-use Rattle.engine.specs.RunSound.{reads-fit, turn-sound, turn-delivers}
+use Rattle.engine.specs.RunLaws.{outcomeAt, tallyAfter}
+use Rattle.engine.specs.laws.RunLaws.{run-ind}
+use Rattle.engine.specs.laws.RunCounts.{tallied-deliveries}
+use Rattle.engine.specs.laws.RunSound.{turn-delivers}
 
 -- the network that the record at place i meets: that after the records before it
 unfoldable pub reached : List ℕ → Table → Network → ℕ → Network
@@ -71,9 +70,3 @@ module _ (ev : List ℕ) (b : Table) (n : Network) where
   run-along =
       along (length ev / 16) 0 n zeroTally
       (record { each = λ i l. absurd (omega arith); network = refl; deliveries = sum-start (λ i. turnAt ev b n i .deliveries) })
-
--- every network on the way is sound
-pub reached-sound : (ev : List ℕ) → Bytes ev → {b : Table} → Rows b → {n : Network} → Sound n → (i : ℕ) → Sound (reached ev b n i)
-unfolding reached
-reached-sound ev h rows s zero = s
-reached-sound ev h rows s (suc i) = turn-sound (reached-sound ev h rows s i) rows (readAt ev i) (reads-fit ev h i)

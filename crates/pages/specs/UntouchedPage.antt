@@ -8,7 +8,7 @@ use mathlib.Core.List.{List}
 use Prim.Native.Nat.{ℕ}
 use lib.Dec.{eqb, ltb}
 use lib.ListN.{length}
-use Rattle.sets.specs.Bools.{ne-eqb}
+use Rattle.sets.specs.laws.Bools.{ne-eqb}
 use Rattle.network.specs.Network.{peer, message}
 use Rattle.network.specs.State.{openOf, bytesOf}
 use Rattle.floodnet.specs.Refusals.{refusalForward}

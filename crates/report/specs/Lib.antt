@@ -1,7 +1,4 @@
 pub mod Text
-pub mod TextLaws
 pub mod Write
 pub mod Report
-pub mod ReportLaws
-pub mod Examples
-pub mod Settled
+pub mod laws

@@ -1,16 +1,5 @@
-pub mod Bools
 pub mod Set
 pub mod Sums
 pub mod Any
 pub mod Least
-pub mod Members
-pub mod Bounds
-pub mod Words
-pub mod Build
-pub mod Lowest
-pub mod Sizes
-pub mod Subsets
-pub mod Algebra
-pub mod Counts
-pub mod Visits
-pub mod Examples
+pub mod laws

@@ -1,3 +1,2 @@
 pub mod Page
-pub mod Exactly
-pub mod PageLaws
+pub mod laws

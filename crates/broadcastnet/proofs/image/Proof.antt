@@ -1,6 +1,6 @@
 -- `broadcastnet::image` meets its contract. Assumes nothing.
 use borrow.Author.Needs.{needs}
-use Rattle.broadcastnet.specs.CommitLaws.{imageNet-made}
+use Rattle.broadcastnet.specs.laws.CommitLaws.{imageNet-made}
 use Rattle.broadcastnet.proofs.image.Statement.{statement}
 use Rattle.broadcastnet.proofs.image.Tie as tie
 

@@ -5,8 +5,9 @@ use Prim.Native.Nat.{ℕ, _-_, _≤_}
 use native.Mathlib.Omega.{arith}
 use lib.ListN.{getD, length-replicate}
 use Rattle.sets.specs.Set.{minus}
-use Rattle.lists.specs.Tab.{Filled, filled-none, filled-more}
-use Rattle.broadcastnet.specs.CommitLaws.{without-filled}
+use Rattle.lists.specs.Tab.{Filled}
+use Rattle.lists.specs.laws.Tab.{filled-none, filled-more}
+use Rattle.broadcastnet.specs.laws.CommitLaws.{without-filled}
 use Rattle.broadcastnet.proofs.settled.Statement.{statement}
 use Rattle.broadcastnet.proofs.settled.Tie as tie
 

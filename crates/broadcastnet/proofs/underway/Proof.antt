@@ -4,7 +4,7 @@ use mathlib.Core.Path.{_≡_, refl}
 use Prim.Native.Nat.{_-_, _≤_}
 use native.Mathlib.Omega.{arith}
 use Rattle.broadcastnet.specs.Commit.{together}
-use Rattle.broadcastnet.specs.CommitLaws.{together-more}
+use Rattle.broadcastnet.specs.laws.CommitLaws.{together-more}
 use Rattle.broadcastnet.proofs.underway.Statement.{statement}
 use Rattle.broadcastnet.proofs.underway.Tie as tie
 

@@ -1,6 +1,6 @@
 -- `console::answer` meets its contract. Assumes nothing.
 use borrow.Author.Needs.{needs}
-use Rattle.console.specs.ConsoleLaws.{printed-as, state-part, table-part, events-part, flood-long, flood-run}
+use Rattle.console.proofs.ConsoleLaws.{printed-as, state-part, table-part, events-part, flood-long, flood-run}
 use Rattle.console.proofs.answer.Statement.{statement}
 use Rattle.console.proofs.answer.Tie as tie
 

@@ -1,6 +1,6 @@
 -- `console::refused` meets its contract. Assumes nothing.
 use borrow.Author.Needs.{needs}
-use Rattle.console.specs.ConsoleLaws.{printed-report, refused-text}
+use Rattle.console.proofs.ConsoleLaws.{printed-report, refused-text}
 use Rattle.console.proofs.refused.Statement.{statement}
 use Rattle.console.proofs.refused.Tie as tie
 

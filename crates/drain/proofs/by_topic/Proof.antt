@@ -2,7 +2,7 @@
 use borrow.Author.Needs.{needs}
 use Prim.Native.Nat.{_-_}
 use native.Mathlib.Omega.{arith}
-use Rattle.drain.specs.AtOnce.{Sorting, sorting-none, sorting-more, sorting-done}
+use Rattle.drain.proofs.AtOnce.{Sorting, sorting-none, sorting-more, sorting-done}
 use Rattle.drain.proofs.by_topic.Statement.{statement}
 use Rattle.drain.proofs.by_topic.Tie as tie
 

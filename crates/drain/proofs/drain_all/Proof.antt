@@ -6,8 +6,8 @@ use Prim.Native.Nat.{_+_, _-_, _≤_, _<_}
 use native.Mathlib.Omega.{arith}
 use borrow.Author.Needs.{needs}
 use borrow.Author.Tests.{eq-eqb}
-use Rattle.network.specs.Network.{bare}
-use Rattle.drain.specs.LentLaws.{Draining, lent-none, lent-done, lent-fits, lent-moves, lent-round, lent-part}
+use Rattle.network.specs.laws.Network.{bare}
+use Rattle.drain.specs.laws.LentLaws.{Draining, lent-none, lent-done, lent-fits, lent-moves, lent-round, lent-part}
 use Rattle.drain.proofs.drain_all.Statement.{statement}
 use Rattle.drain.proofs.drain_all.Tie as tie
 

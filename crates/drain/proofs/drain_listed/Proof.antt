@@ -5,11 +5,11 @@ use Prim.Native.Nat.{ℕ, _-_, _≤_}
 use native.Mathlib.Omega.{arith}
 use borrow.Author.Needs.{needs}
 use Rattle.network.specs.declared.Network.{Network}
-use Rattle.network.specs.Network.{bare}
+use Rattle.network.specs.laws.Network.{bare}
 use Rattle.floodnet.specs.View.{fwd}
-use Rattle.floodnet.specs.CodeForward.{withMessages}
+use Rattle.floodnet.specs.Lent.{withMessages}
 use Rattle.network.specs.Network.{table}
-use Rattle.drain.specs.Turns.{Peers, peers-none, peers-more}
+use Rattle.drain.specs.laws.Turns.{Peers, peers-none, peers-more}
 use Rattle.drain.proofs.drain_listed.Statement.{statement}
 use Rattle.drain.proofs.drain_listed.Tie as tie
 

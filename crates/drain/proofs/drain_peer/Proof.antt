@@ -6,12 +6,12 @@ use Prim.Native.Nat.{ℕ, _-_}
 use native.Mathlib.Omega.{arith}
 use borrow.Author.Needs.{needs}
 use Rattle.network.specs.declared.Network.{Network}
-use Rattle.network.specs.Network.{bare}
+use Rattle.network.specs.laws.Network.{bare}
 use Rattle.floodnet.specs.View.{fwd}
-use Rattle.floodnet.specs.CodeForward.{withMessages}
+use Rattle.floodnet.specs.Lent.{withMessages}
 use Rattle.network.specs.Network.{table}
 use Rattle.drain.specs.Pairs.{Walk, walk-none, walk-more, walk-done}
-use Rattle.drain.specs.AtOnceForwards.{all-at-once}
+use Rattle.drain.proofs.AtOnceForwards.{all-at-once}
 use Rattle.drain.proofs.drain_peer.Statement.{statement}
 use Rattle.drain.proofs.drain_peer.Tie as tie
 

@@ -3,7 +3,7 @@ use borrow.Author.Needs.{needs}
 use mathlib.Core.Logic.{⊎-elim}
 use Prim.Native.Nat.{_-_, _<_}
 use native.Mathlib.Omega.{arith}
-use Rattle.drain.specs.AtOnce.{of-words, Spreading, spreading-none, spreading-more, spreading-skip, spreading-done}
+use Rattle.drain.proofs.AtOnce.{of-words, Spreading, spreading-none, spreading-more, spreading-skip, spreading-done}
 use Rattle.drain.proofs.forward_set.Statement.{statement}
 use Rattle.drain.proofs.forward_set.Tie as tie
 

@@ -2,8 +2,9 @@
 use borrow.Author.Needs.{needs}
 use mathlib.Core.Path.{ap, _∙_}
 use Rattle.sets.specs.Set.{union}
-use Rattle.floodnet.specs.CodeVisit.{Along, along-none, along-done}
-use Rattle.drain.specs.AtOnce.{gives, gives-none, giving}
+use Rattle.floodnet.specs.laws.CodeVisit.{Along, along-none, along-done}
+use Rattle.drain.specs.AtOnce.{gives}
+use Rattle.drain.proofs.AtOnce.{gives-none, giving}
 use Rattle.drain.proofs.give_set.Statement.{statement}
 use Rattle.drain.proofs.give_set.Tie as tie
 

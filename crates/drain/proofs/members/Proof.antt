@@ -2,8 +2,8 @@
 use mathlib.Core.Path.{sym, _∙_}
 use native.Mathlib.Omega.{arith}
 use borrow.Author.Needs.{needs}
-use Rattle.sets.specs.Sizes.{size-none}
-use Rattle.sets.specs.Counts.{size-count}
+use Rattle.sets.specs.laws.Sizes.{size-none}
+use Rattle.sets.specs.laws.Counts.{size-count}
 use Rattle.drain.proofs.members.Statement.{statement}
 use Rattle.drain.proofs.members.Tie as tie
 

@@ -5,10 +5,13 @@ use native.Mathlib.Omega.{arith}
 use borrow.Author.Needs.{needs}
 use lib.Dec.{eqb}
 use lib.ListN.{getD}
-use Rattle.sets.specs.Any.{all, all-start, all-more}
+use Rattle.sets.specs.Any.{all}
+use Rattle.sets.specs.laws.Any.{all-start, all-more}
 use Rattle.sets.specs.Set.{has, count}
-use Rattle.sets.specs.Sums.{sum, sum-start, sum-more}
-use Rattle.drain.specs.Pairs.{waitingOf, empty-more}
+use Rattle.sets.specs.Sums.{sum}
+use Rattle.sets.specs.laws.Sums.{sum-start, sum-more}
+use Rattle.drain.specs.Pairs.{waitingOf}
+use Rattle.drain.specs.laws.Pairs.{empty-more}
 use Rattle.drain.proofs.waiting.Statement.{statement}
 use Rattle.drain.proofs.waiting.Tie as tie
 

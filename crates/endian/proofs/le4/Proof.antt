@@ -1,7 +1,7 @@
 -- `endian::le4` meets its contract: the sum is `le 4`, and it stays in range because each byte is below 256. Assumes nothing.
 use borrow.Author.Needs.{needs}
 use native.Mathlib.Omega.{arith}
-use Rattle.endian.specs.Le.{le-4}
+use Rattle.endian.specs.laws.Le.{le-4}
 use Rattle.endian.proofs.le4.Statement.{statement}
 use Rattle.endian.proofs.le4.Tie as tie
 

@@ -1,7 +1,7 @@
 -- `endian::le8` meets its contract: two numbers of four bytes are one of eight. Assumes nothing.
 use borrow.Author.Needs.{needs}
 use native.Mathlib.Omega.{arith}
-use Rattle.endian.specs.Le.{le-8}
+use Rattle.endian.specs.laws.Le.{le-8}
 use Rattle.endian.proofs.le8.Statement.{statement}
 use Rattle.endian.proofs.le8.Tie as tie
 

@@ -3,7 +3,7 @@ use borrow.Author.Needs.{needs}
 use native.Mathlib.Omega.{arith}
 use mathlib.Core.Path.{sym}
 use lib.ListN.{length-set}
-use Rattle.endian.specs.Le.{putLe-4}
+use Rattle.endian.specs.laws.Le.{putLe-4}
 use Rattle.endian.proofs.put4.Statement.{statement}
 use Rattle.endian.proofs.put4.Tie as tie
 

@@ -1,6 +1,6 @@
 -- `endian::put8` meets its contract: its low half is written, then its high half. Assumes nothing.
 use borrow.Author.Needs.{needs}
-use Rattle.endian.specs.Le.{putLe-halves}
+use Rattle.endian.specs.laws.Le.{putLe-halves}
 use Rattle.endian.proofs.put8.Statement.{statement}
 use Rattle.endian.proofs.put8.Tie as tie
 

@@ -5,7 +5,7 @@ use Rattle.network.specs.Network.{withPubs, withSubs, withNeighbours, withPendi
 use Rattle.events.specs.Fits.{EventFits}
 use Rattle.events.specs.Kind.{kindOf}
 use Rattle.floodnet.specs.Step.{refusal, effect, deliveriesOf}
-use Rattle.floodnet.specs.CodeTurns.{fits-as, stepped-as, stepped-done}
+use Rattle.floodnet.proofs.CodeTurns.{fits-as, stepped-as, stepped-done}
 use Rattle.floodnet.proofs.step.Statement.{statement}
 use Rattle.floodnet.proofs.step.Tie as tie
 

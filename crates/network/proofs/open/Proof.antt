@@ -1,7 +1,7 @@
 -- `network::open` meets its contract. Assumes nothing.
 use borrow.Author.Needs.{needs}
-use Rattle.network.specs.Network.{bare}
-use Rattle.network.specs.Opening.{net-is, unsound-is, opens-1, opens-5, opens-0}
+use Rattle.network.specs.laws.Network.{bare}
+use Rattle.network.specs.laws.Opening.{net-is, unsound-is, opens-1, opens-5, opens-0}
 use Rattle.network.proofs.open.Statement.{statement}
 use Rattle.network.proofs.open.Tie as tie
 

@@ -1,9 +1,9 @@
 -- `network::read` meets its contract. Assumes nothing.
 use borrow.Author.Needs.{needs}
 use mathlib.Core.Path.{_≡_, _∙_}
-use Rattle.network.specs.Network.{bare}
+use Rattle.network.specs.laws.Network.{bare}
 use Rattle.network.specs.State.{unsoundAt}
-use Rattle.network.specs.Opening.{unsound-is, open-1, open-5, open-0}
+use Rattle.network.specs.laws.Opening.{unsound-is, open-1, open-5, open-0}
 use Rattle.network.proofs.read.Statement.{statement}
 use Rattle.network.proofs.read.Tie as tie
 

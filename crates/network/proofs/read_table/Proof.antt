@@ -2,8 +2,8 @@
 use borrow.Author.Needs.{needs}
 use mathlib.Core.Path.{_≡_, _∙_}
 use Rattle.network.specs.Rows.{badRow}
-use Rattle.network.specs.Listing.{list-2, list-4, list-0}
-use Rattle.network.specs.RowWords.{bad-is, table-is}
+use Rattle.network.specs.laws.Listing.{list-2, list-4, list-0}
+use Rattle.network.proofs.RowWords.{bad-is, table-is}
 use borrow.Author.Needs.{needs}
 use Rattle.network.proofs.read_table.Statement.{statement}
 use Rattle.network.proofs.read_table.Tie as tie

@@ -3,10 +3,11 @@ use borrow.Author.Needs.{needs}
 use mathlib.Core.Path.{_≡_}
 use Prim.Native.Nat.{_-_, _*_, _≤_}
 use native.Mathlib.Omega.{arith}
-use Rattle.lists.specs.Tab.{Filled, filled-none, filled-all}
+use Rattle.lists.specs.Tab.{Filled}
+use Rattle.lists.specs.laws.Tab.{filled-none, filled-all}
 use Rattle.network.specs.Network.{mk}
 use Rattle.network.specs.State.{byteOf, bytesOf}
-use Rattle.network.specs.Storing.{filled-record}
+use Rattle.network.specs.laws.Storing.{filled-record}
 use Rattle.network.proofs.save.Statement.{statement}
 use Rattle.network.proofs.save.Tie as tie
 

@@ -1,10 +1,10 @@
 -- `network::write` meets its contract. Assumes nothing.
 use borrow.Author.Needs.{needs}
 use mathlib.Core.Path.{_≡_, _∙_}
-use Rattle.network.specs.Network.{bare}
+use Rattle.network.specs.laws.Network.{bare}
 use Rattle.network.specs.Rules.{lowestFault}
-use Rattle.network.specs.Faults.{lowest-tab}
-use Rattle.network.specs.Writing.{write-1, write-5, write-0}
+use Rattle.network.specs.laws.Faults.{lowest-tab}
+use Rattle.network.specs.laws.Writing.{write-1, write-5, write-0}
 use Rattle.network.proofs.write.Statement.{statement}
 use Rattle.network.proofs.write.Tie as tie
 

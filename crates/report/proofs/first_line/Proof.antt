@@ -1,8 +1,8 @@
 -- `report::first_line` meets its contract: its parts one after the other, and each has room. Assumes nothing.
 use borrow.Author.Needs.{needs}
 use native.Mathlib.Omega.{arith}
-use Rattle.report.specs.TextLaws.{length-byte, spaced-long}
-use Rattle.report.specs.Write.{wrote-then}
+use Rattle.report.specs.laws.TextLaws.{length-byte, spaced-long}
+use Rattle.report.proofs.Write.{wrote-then}
 use Rattle.report.specs.Report.{firstLine, flood}
 use Rattle.report.proofs.first_line.Statement.{statement}
 use Rattle.report.proofs.first_line.Tie as tie

@@ -1,8 +1,8 @@
 -- `report::peer_line` meets its contract: its parts one after the other, and each has room. Assumes nothing.
 use borrow.Author.Needs.{needs}
 use native.Mathlib.Omega.{arith}
-use Rattle.report.specs.TextLaws.{length-count, spaced-count}
-use Rattle.report.specs.Write.{wrote-then}
+use Rattle.report.specs.laws.TextLaws.{length-count, spaced-count}
+use Rattle.report.proofs.Write.{wrote-then}
 use Rattle.report.specs.Report.{countLine, peerWord}
 use Rattle.report.proofs.peer_line.Statement.{statement}
 use Rattle.report.proofs.peer_line.Tie as tie

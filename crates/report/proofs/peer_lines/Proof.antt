@@ -5,9 +5,10 @@ use mathlib.Core.Logic.{⊎-elim}
 use Prim.Native.Nat.{_+_, _-_, _*_, _≤_}
 use native.Mathlib.Omega.{arith}
 use lib.ListN.{length}
-use Rattle.report.specs.Write.{Wrote, wrote-none}
+use Rattle.report.specs.Write.{Wrote}
+use Rattle.report.proofs.Write.{wrote-none}
 use Rattle.report.specs.Report.{linesTo, peerLines, peerLine}
-use Rattle.report.specs.ReportLaws.{lines-more, lines-same}
+use Rattle.report.proofs.ReportLaws.{lines-more, lines-same}
 use Rattle.report.proofs.peer_lines.Statement.{statement}
 use Rattle.report.proofs.peer_lines.Tie as tie
 

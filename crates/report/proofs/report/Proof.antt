@@ -1,7 +1,7 @@
 -- `report::report` meets its contract. Assumes nothing.
 use borrow.Author.Needs.{needs}
 use borrow.Author.Tests.{not-true, not-false}
-use Rattle.report.specs.ReportLaws.{reported-none, reported-first, reported-all}
+use Rattle.report.proofs.ReportLaws.{reported-none, reported-first, reported-all}
 use Rattle.report.proofs.report.Statement.{statement}
 use Rattle.report.proofs.report.Tie as tie
 

@@ -1,7 +1,7 @@
 -- `sets::lowest64` meets its contract. Assumes nothing.
 use borrow.Author.Needs.{needs}
 use Rattle.sets.specs.Set.{lowest}
-use Rattle.sets.specs.Lowest.{lowest-lt}
+use Rattle.sets.specs.laws.Lowest.{lowest-lt}
 use Rattle.sets.proofs.lowest64.Statement.{statement}
 use Rattle.sets.proofs.lowest64.Tie as tie
 

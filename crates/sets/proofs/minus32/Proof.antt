@@ -1,6 +1,6 @@
 -- `sets::minus32` meets its contract. Assumes nothing.
 use borrow.Author.Needs.{needs}
-use Rattle.sets.specs.Words.{and-not}
+use Rattle.sets.proofs.Words.{and-not}
 use Rattle.sets.proofs.minus32.Statement.{statement}
 use Rattle.sets.proofs.minus32.Tie as tie
 

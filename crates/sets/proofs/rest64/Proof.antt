@@ -1,6 +1,6 @@
 -- `sets::rest64` meets its contract. Assumes nothing.
 use borrow.Author.Needs.{needs}
-use Rattle.sets.specs.Lowest.{and-pred, and-pred-lt}
+use Rattle.sets.specs.laws.Lowest.{and-pred, and-pred-lt}
 use Rattle.sets.proofs.rest64.Statement.{statement}
 use Rattle.sets.proofs.rest64.Tie as tie
 

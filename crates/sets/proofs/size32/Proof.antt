@@ -1,7 +1,7 @@
 -- `sets::size32` meets its contract. Assumes nothing.
 use borrow.Author.Needs.{needs}
 use Rattle.sets.specs.Set.{size}
-use Rattle.sets.specs.Sizes.{size-le}
+use Rattle.sets.specs.laws.Sizes.{size-le}
 use Rattle.sets.proofs.size32.Statement.{statement}
 use Rattle.sets.proofs.size32.Tie as tie
 

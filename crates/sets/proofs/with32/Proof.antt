@@ -1,6 +1,6 @@
 -- `sets::with32` meets its contract. Assumes nothing.
 use borrow.Author.Needs.{needs}
-use Rattle.sets.specs.Words.{or-shl}
+use Rattle.sets.proofs.Words.{or-shl}
 use Rattle.sets.proofs.with32.Statement.{statement}
 use Rattle.sets.proofs.with32.Tie as tie
 

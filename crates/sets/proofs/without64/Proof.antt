@@ -1,6 +1,6 @@
 -- `sets::without64` meets its contract. Assumes nothing.
 use borrow.Author.Needs.{needs}
-use Rattle.sets.specs.Words.{and-not-shl}
+use Rattle.sets.proofs.Words.{and-not-shl}
 use Rattle.sets.proofs.without64.Statement.{statement}
 use Rattle.sets.proofs.without64.Tie as tie
 

@@ -1,8 +1,9 @@
 -- `engine::alone::forward_saved` meets its contract. Assumes nothing.
 use borrow.Author.Needs.{needs}
 use native.Mathlib.Omega.{arith}
-use Rattle.network.specs.Network.{bare, withPubs, withSubs, withNeighbours}
-use Rattle.engine.specs.ForwardAlone.{forward-peer, forward-message, forward-refused, forward-done}
+use Rattle.network.specs.Network.{withPubs, withSubs, withNeighbours}
+use Rattle.network.specs.laws.Network.{bare}
+use Rattle.engine.specs.laws.ForwardAlone.{forward-peer, forward-message, forward-refused, forward-done}
 use Rattle.engine.proofs.alone.forward_saved.Statement.{statement}
 use Rattle.engine.proofs.alone.forward_saved.Tie as tie
 

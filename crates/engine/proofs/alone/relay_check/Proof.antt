@@ -1,8 +1,8 @@
 -- `engine::alone::relay_check` meets its contract. Assumes nothing.
 use borrow.Author.Needs.{needs}
 use mathlib.Core.Path.{_∙_}
-use Rattle.engine.specs.AloneLaws.{check-is}
-use Rattle.engine.specs.Lent.{looked-is}
+use Rattle.engine.proofs.AloneLaws.{check-is}
+use Rattle.engine.proofs.Lent.{looked-is}
 use Rattle.engine.proofs.alone.relay_check.Statement.{statement}
 use Rattle.engine.proofs.alone.relay_check.Tie as tie
 

@@ -1,7 +1,7 @@
 -- `engine::alone::relay_copy` meets its contract. Assumes nothing.
 use borrow.Author.Needs.{needs}
-use Rattle.engine.specs.AloneLaws.{copy-refused, copy-short, copy-done, answered-as}
-use Rattle.engine.specs.Lent.{looked-is, looked-net}
+use Rattle.engine.proofs.AloneLaws.{copy-refused, copy-short, copy-done, answered-as}
+use Rattle.engine.proofs.Lent.{looked-is, looked-net}
 use Rattle.engine.proofs.alone.relay_copy.Statement.{statement}
 use Rattle.engine.proofs.alone.relay_copy.Tie as tie
 

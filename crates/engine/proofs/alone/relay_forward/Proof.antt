@@ -1,7 +1,7 @@
 -- `engine::alone::relay_forward` meets its contract. Assumes nothing.
 use borrow.Author.Needs.{needs}
-use Rattle.engine.specs.ForwardAlone.{forward-begun, forward-read}
-use Rattle.engine.specs.Lent.{started, started-rows, started-long}
+use Rattle.engine.specs.laws.ForwardAlone.{forward-begun, forward-read}
+use Rattle.engine.proofs.Lent.{started, started-rows, started-long}
 use Rattle.engine.proofs.alone.relay_forward.Statement.{statement}
 use Rattle.engine.proofs.alone.relay_forward.Tie as tie
 

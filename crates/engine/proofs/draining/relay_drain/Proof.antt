@@ -1,7 +1,7 @@
 -- `engine::draining::relay_drain` meets its contract. Assumes nothing.
 use borrow.Author.Needs.{needs}
-use Rattle.engine.specs.DrainingLaws.{drain-refused, drain-done}
-use Rattle.engine.specs.Lent.{started, started-rows, started-long}
+use Rattle.engine.specs.laws.DrainingLaws.{drain-refused, drain-done}
+use Rattle.engine.proofs.Lent.{started, started-rows, started-long}
 use Rattle.engine.proofs.draining.relay_drain.Statement.{statement}
 use Rattle.engine.proofs.draining.relay_drain.Tie as tie
 

@@ -1,9 +1,9 @@
 -- `engine::imaging::relay_image` meets its contract. Assumes nothing.
 use borrow.Author.Needs.{needs}
-use Rattle.broadcastnet.specs.CommitLaws.{imageNet-made}
-use Rattle.engine.specs.AloneLaws.{answered-as}
-use Rattle.engine.specs.ImagingLaws.{image-refused, image-short, image-done}
-use Rattle.engine.specs.Lent.{looked-is, looked-net}
+use Rattle.broadcastnet.specs.laws.CommitLaws.{imageNet-made}
+use Rattle.engine.proofs.AloneLaws.{answered-as}
+use Rattle.engine.proofs.ImagingLaws.{image-refused, image-short, image-done}
+use Rattle.engine.proofs.Lent.{looked-is, looked-net}
 use Rattle.engine.proofs.imaging.relay_image.Statement.{statement}
 use Rattle.engine.proofs.imaging.relay_image.Tie as tie
 

@@ -1,7 +1,7 @@
 -- `engine::running::run_core` meets its contract. Assumes nothing.
 use borrow.Author.Needs.{needs}
-use Rattle.engine.specs.RunEnds.{ends-refused, ends-run}
-use Rattle.engine.specs.Lent.{started, started-rows, started-long}
+use Rattle.engine.proofs.RunEnds.{ends-refused, ends-run}
+use Rattle.engine.proofs.Lent.{started, started-rows, started-long}
 use Rattle.engine.proofs.running.run_core.Statement.{statement}
 use Rattle.engine.proofs.running.run_core.Tie as tie
 

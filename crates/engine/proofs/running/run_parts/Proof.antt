@@ -5,12 +5,12 @@ use lib.ListN.{length}
 use native.Mathlib.Omega.{arith}
 use Rattle.network.specs.Network.{mk}
 use Rattle.network.specs.Network.{table}
-use Rattle.events.specs.ReadingLaws.{read-is}
+use Rattle.events.specs.laws.ReadingLaws.{read-is}
 use Rattle.engine.specs.Run.{tally, zeroTally, runFrom, runAll}
-use Rattle.engine.specs.RunSound.{reads-fit}
-use Rattle.engine.specs.Going.{Going, going-start, going-room}
-use Rattle.engine.specs.RunEnds.{runs-as}
-use Rattle.engine.specs.Looping.{ran-stop, ran-on, ran-end}
+use Rattle.engine.specs.laws.RunSound.{reads-fit}
+use Rattle.engine.proofs.RunLoop.{Going, going-start, going-room}
+use Rattle.engine.proofs.RunEnds.{runs-as}
+use Rattle.engine.proofs.RunTurns.{ran-stop, ran-on, ran-end}
 use Rattle.engine.proofs.running.run_parts.Statement.{statement}
 use Rattle.engine.proofs.running.run_parts.Tie as tie
 

@@ -1,6 +1,6 @@
 -- `engine::running::run_saved` meets its contract. Assumes nothing.
 use borrow.Author.Needs.{needs}
-use Rattle.engine.specs.RunEnds.{ends-written}
+use Rattle.engine.proofs.RunEnds.{ends-written}
 use Rattle.engine.proofs.running.run_saved.Statement.{statement}
 use Rattle.engine.proofs.running.run_saved.Tie as tie
 

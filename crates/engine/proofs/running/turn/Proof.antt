@@ -7,14 +7,14 @@ use Prim.Native.Nat.{ℕ}
 use native.Mathlib.Omega.{arith}
 use types.Run.{OneOf}
 use denote.Enum.Declared.{tagOf}
-use Rattle.network.specs.Network.{bare}
+use Rattle.network.specs.laws.Network.{bare}
 use Rattle.events.specs.declared.Event.{Event}
 use Rattle.events.specs.declared.Read.{Read}
 use Rattle.events.specs.declared.Read.the-variants.{Taken}
 use Rattle.events.specs.declared.Reading.{Reading}
 use Rattle.events.proofs.Read as R
 use Rattle.engine.specs.Run.{refusedBy}
-use Rattle.engine.specs.TurnLaws.{taken-fits, turn-taken, turn-none}
+use Rattle.engine.proofs.TurnLaws.{taken-fits, turn-taken, turn-none}
 use Rattle.engine.proofs.running.turn.Statement.{statement}
 use Rattle.engine.proofs.running.turn.Tie as tie
 

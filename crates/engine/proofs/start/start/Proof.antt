@@ -1,9 +1,9 @@
 -- `engine::start::start` meets its contract. Assumes nothing.
 use borrow.Author.Needs.{needs}
 use mathlib.Core.Path.{_≡_, refl}
-use Rattle.sets.specs.Bools.{ne-eqb}
-use Rattle.engine.specs.StartLaws.{begin-1, begin-2, begin-3, begin-4}
-use Rattle.engine.specs.Lent.{starts-refused, starts-5, starts-0}
+use Rattle.sets.specs.laws.Bools.{ne-eqb}
+use Rattle.engine.specs.laws.StartLaws.{begin-1, begin-2, begin-3, begin-4}
+use Rattle.engine.proofs.Lent.{starts-refused, starts-5, starts-0}
 use Rattle.engine.proofs.start.start.Statement.{statement}
 use Rattle.engine.proofs.start.start.Tie as tie
 

@@ -1,10 +1,10 @@
 -- `floodnet::arrays::give` meets its contract. Assumes nothing.
 use borrow.Author.Needs.{needs}
 use Rattle.sets.specs.Set.{has, only, puts}
-use Rattle.sets.specs.Members.{has-none}
-use Rattle.floodnet.specs.CodeVisit.{along-done}
-use Rattle.floodnet.specs.CodeWhen.{Picking, picking-none}
-use Rattle.floodnet.specs.CodeArrays.{marking}
+use Rattle.sets.specs.laws.Members.{has-none}
+use Rattle.floodnet.specs.laws.CodeVisit.{along-done}
+use Rattle.floodnet.proofs.CodeChoices.{Picking, picking-none}
+use Rattle.floodnet.proofs.CodeArrays.{marking}
 use Rattle.floodnet.proofs.arrays.give.Statement.{statement}
 use Rattle.floodnet.proofs.arrays.give.Tie as tie
 

@@ -2,8 +2,9 @@
 use borrow.Author.Needs.{needs}
 use mathlib.Core.Path.{sym, _∙_}
 use mathlib.Core.Logic.{⊎-elim}
-use Rattle.sets.specs.Visits.{Visit, visit-none, visit-yes, visit-no, visit-done}
-use Rattle.floodnet.specs.CodeArrays.{holding, holding-is}
+use Rattle.sets.specs.laws.Visits.{Visit, visit-none, visit-yes, visit-no, visit-done}
+use Rattle.floodnet.specs.Lent.{holding}
+use Rattle.floodnet.proofs.CodeArrays.{holding-is}
 use Rattle.floodnet.proofs.arrays.holders.Statement.{statement}
 use Rattle.floodnet.proofs.arrays.holders.Tie as tie
 

@@ -2,7 +2,7 @@
 use borrow.Author.Needs.{needs}
 use mathlib.Core.List.{[]}
 use Rattle.network.specs.Network.{withAll}
-use Rattle.floodnet.specs.CodeLinks.{joined-law}
+use Rattle.floodnet.proofs.CodeLinks.{joined-law}
 use Rattle.floodnet.proofs.links.join.Statement.{statement}
 use Rattle.floodnet.proofs.links.join.Tie as tie
 

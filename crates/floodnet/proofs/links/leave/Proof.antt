@@ -2,7 +2,7 @@
 use borrow.Author.Needs.{needs}
 use mathlib.Core.List.{[]}
 use Rattle.network.specs.Network.{withAll}
-use Rattle.floodnet.specs.CodeLinks.{left-law}
+use Rattle.floodnet.proofs.CodeLinks.{left-law}
 use Rattle.floodnet.proofs.links.leave.Statement.{statement}
 use Rattle.floodnet.proofs.links.leave.Tie as tie
 

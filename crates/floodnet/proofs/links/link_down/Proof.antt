@@ -1,6 +1,6 @@
 -- `floodnet::links::link_down` meets its contract. Assumes nothing.
 use borrow.Author.Needs.{needs}
-use Rattle.floodnet.specs.CodeLinks.{linkDown-law}
+use Rattle.floodnet.proofs.CodeLinks.{linkDown-law}
 use Rattle.floodnet.proofs.links.link_down.Statement.{statement}
 use Rattle.floodnet.proofs.links.link_down.Tie as tie
 

@@ -1,6 +1,6 @@
 -- `floodnet::links::link_up` meets its contract. Assumes nothing.
 use borrow.Author.Needs.{needs}
-use Rattle.floodnet.specs.CodeLinks.{linkUp-law}
+use Rattle.floodnet.proofs.CodeLinks.{linkUp-law}
 use Rattle.floodnet.proofs.links.link_up.Statement.{statement}
 use Rattle.floodnet.proofs.links.link_up.Tie as tie
 

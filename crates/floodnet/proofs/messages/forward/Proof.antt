@@ -3,7 +3,7 @@ use borrow.Author.Needs.{needs}
 use mathlib.Core.Path.{ap}
 use native.Mathlib.Omega.{arith}
 use Rattle.network.specs.declared.Topic.{Topic}
-use Rattle.floodnet.specs.CodeForward.{receivers-law, forwarded-law}
+use Rattle.floodnet.proofs.CodeForward.{receivers-law, forwarded-law}
 use Rattle.floodnet.proofs.messages.forward.Statement.{statement}
 use Rattle.floodnet.proofs.messages.forward.Tie as tie
 

@@ -2,7 +2,7 @@
 use borrow.Author.Needs.{needs}
 use mathlib.Core.Path.{refl}
 use Rattle.floodnet.specs.Refusals.{refusalJoin}
-use Rattle.floodnet.specs.CodeRefusals.{need-fails, need-holds, test-bars, test-frees, some-fails, none-holds}
+use Rattle.floodnet.proofs.CodeRefusals.{need-fails, need-holds, test-bars, test-frees, some-fails, none-holds}
 use Rattle.floodnet.proofs.refusals.of_join.Statement.{statement}
 use Rattle.floodnet.proofs.refusals.of_join.Tie as tie
 

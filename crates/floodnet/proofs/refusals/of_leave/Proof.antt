@@ -2,7 +2,7 @@
 use borrow.Author.Needs.{needs}
 use mathlib.Core.Path.{refl}
 use Rattle.floodnet.specs.Refusals.{refusalLeave}
-use Rattle.floodnet.specs.CodeRefusals.{need-fails, need-holds, test-fails, test-holds, some-fails, none-holds}
+use Rattle.floodnet.proofs.CodeRefusals.{need-fails, need-holds, test-fails, test-holds, some-fails, none-holds}
 use Rattle.floodnet.proofs.refusals.of_leave.Statement.{statement}
 use Rattle.floodnet.proofs.refusals.of_leave.Tie as tie
 

@@ -7,7 +7,7 @@ use Rattle.network.specs.declared.Topic.{Topic}
 use Rattle.network.specs.Network.{withPresent, withPubs, withPending, withSeen}
 use Rattle.floodnet.specs.Produce.{isNew}
 use Rattle.floodnet.specs.Refusals.{refusalProduce}
-use Rattle.floodnet.specs.CodeRefusals.{need-fails, need-holds, test-fails, test-holds, test-topic, some-fails, none-holds, holders-is}
+use Rattle.floodnet.proofs.CodeRefusals.{need-fails, need-holds, test-fails, test-holds, test-topic, some-fails, none-holds, holders-is}
 use Rattle.floodnet.proofs.refusals.of_produce.Statement.{statement}
 use Rattle.floodnet.proofs.refusals.of_produce.Tie as tie
 

@@ -2,7 +2,7 @@
 use borrow.Author.Needs.{needs}
 use mathlib.Core.Path.{refl}
 use Rattle.floodnet.specs.Refusals.{refusalTopics}
-use Rattle.floodnet.specs.CodeRefusals.{need-fails, need-holds, test-fails, test-holds}
+use Rattle.floodnet.proofs.CodeRefusals.{need-fails, need-holds, test-fails, test-holds}
 use Rattle.floodnet.proofs.refusals.of_topics.Statement.{statement}
 use Rattle.floodnet.proofs.refusals.of_topics.Tie as tie
 

@@ -2,10 +2,10 @@
 use borrow.Author.Needs.{needs}
 use mathlib.Core.Path.{sym, _∙_}
 use Rattle.sets.specs.Set.{only, puts}
-use Rattle.floodnet.specs.CodeVisit.{along-done}
-use Rattle.floodnet.specs.CodeWhen.{puts-twice, Picking, picking-none}
-use Rattle.floodnet.specs.CodeArrays.{inside, inside-no-peer, inside-noted}
-use Rattle.floodnet.specs.CodeWalks.{noting-row}
+use Rattle.floodnet.specs.laws.CodeVisit.{along-done}
+use Rattle.floodnet.proofs.CodeChoices.{puts-twice, Picking, picking-none}
+use Rattle.floodnet.proofs.CodeArrays.{inside, inside-no-peer, inside-noted}
+use Rattle.floodnet.proofs.CodeWalks.{noting-row}
 use Rattle.floodnet.proofs.rows.note_all.Statement.{statement}
 use Rattle.floodnet.proofs.rows.note_all.Tie as tie
 

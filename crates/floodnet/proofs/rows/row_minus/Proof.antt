@@ -5,8 +5,8 @@ use Prim.Native.Nat.{_≤_, _-_}
 use native.Mathlib.Omega.{arith}
 use Rattle.sets.specs.Set.{strikes}
 use Rattle.lists.specs.Edit.{edit}
-use Rattle.floodnet.specs.CodeWhen.{picks}
-use Rattle.floodnet.specs.CodeRows.{front, row-none, row-more, row-all}
+use Rattle.floodnet.proofs.CodeChoices.{picks}
+use Rattle.floodnet.proofs.CodeRows.{front, row-none, row-more, row-all}
 use Rattle.floodnet.proofs.rows.row_minus.Statement.{statement}
 use Rattle.floodnet.proofs.rows.row_minus.Tie as tie
 

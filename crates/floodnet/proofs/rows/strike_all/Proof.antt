@@ -2,10 +2,10 @@
 use borrow.Author.Needs.{needs}
 use mathlib.Core.Path.{sym, _∙_}
 use Rattle.sets.specs.Set.{only, strikes}
-use Rattle.floodnet.specs.CodeVisit.{along-done}
-use Rattle.floodnet.specs.CodeWhen.{strikes-twice, Picking, picking-none}
-use Rattle.floodnet.specs.CodeArrays.{inside, inside-no-peer, inside-struck}
-use Rattle.floodnet.specs.CodeWalks.{noting-row}
+use Rattle.floodnet.specs.laws.CodeVisit.{along-done}
+use Rattle.floodnet.proofs.CodeChoices.{strikes-twice, Picking, picking-none}
+use Rattle.floodnet.proofs.CodeArrays.{inside, inside-no-peer, inside-struck}
+use Rattle.floodnet.proofs.CodeWalks.{noting-row}
 use Rattle.floodnet.proofs.rows.strike_all.Statement.{statement}
 use Rattle.floodnet.proofs.rows.strike_all.Tie as tie
 

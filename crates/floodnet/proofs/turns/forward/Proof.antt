@@ -5,10 +5,10 @@ use mathlib.Core.List.{[]}
 use Rattle.sets.specs.Set.{size}
 use Rattle.floodnet.specs.Forward.{deliveries}
 use Rattle.network.specs.Network.{withPresent}
-use Rattle.floodnet.specs.CodeForward.{withMessages}
+use Rattle.floodnet.specs.Lent.{withMessages}
 use Rattle.events.specs.Kind.{kindOf}
 use Rattle.floodnet.specs.Step.{refusal, effect, deliveriesOf}
-use Rattle.floodnet.specs.CodeTurns.{stepped-refused, stepped-done}
+use Rattle.floodnet.proofs.CodeTurns.{stepped-refused, stepped-done}
 use Rattle.floodnet.proofs.turns.forward.Statement.{statement}
 use Rattle.floodnet.proofs.turns.forward.Tie as tie
 

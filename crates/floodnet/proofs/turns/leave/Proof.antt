@@ -5,7 +5,7 @@ use mathlib.Core.List.{[]}
 use Rattle.network.specs.Network.{withAll}
 use Rattle.events.specs.Kind.{kindOf}
 use Rattle.floodnet.specs.Step.{refusal, effect, deliveriesOf}
-use Rattle.floodnet.specs.CodeTurns.{stepped-refused, stepped-done}
+use Rattle.floodnet.proofs.CodeTurns.{stepped-refused, stepped-done}
 use Rattle.floodnet.proofs.turns.leave.Statement.{statement}
 use Rattle.floodnet.proofs.turns.leave.Tie as tie
 

@@ -1,5 +1,5 @@
 -- `floodnet::turns::refused` meets its contract. Assumes nothing.
-use Rattle.floodnet.specs.CodeTurns.{turned-refused}
+use Rattle.floodnet.proofs.CodeTurns.{turned-refused}
 use Rattle.floodnet.proofs.turns.refused.Statement.{statement}
 use Rattle.floodnet.proofs.turns.refused.Tie as tie
 

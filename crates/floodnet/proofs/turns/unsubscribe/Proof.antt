@@ -2,10 +2,10 @@
 use borrow.Author.Needs.{needs}
 use mathlib.Core.Path.{refl}
 use Rattle.network.specs.Network.{withPresent}
-use Rattle.floodnet.specs.CodeLinks.{withLinks}
+use Rattle.floodnet.specs.Lent.{withLinks}
 use Rattle.events.specs.Kind.{kindOf}
 use Rattle.floodnet.specs.Step.{refusal, effect, deliveriesOf}
-use Rattle.floodnet.specs.CodeTurns.{stepped-refused, stepped-done}
+use Rattle.floodnet.proofs.CodeTurns.{stepped-refused, stepped-done}
 use Rattle.floodnet.proofs.turns.unsubscribe.Statement.{statement}
 use Rattle.floodnet.proofs.turns.unsubscribe.Tie as tie
 

@@ -3,9 +3,10 @@ use borrow.Author.Needs.{needs}
 use mathlib.Core.Path.{_≡_}
 use Prim.Native.Nat.{_-_, _*_, _≤_}
 use native.Mathlib.Omega.{arith}
-use Rattle.lists.specs.Tab.{Filled, filled-none, filled-all}
+use Rattle.lists.specs.Tab.{Filled}
+use Rattle.lists.specs.laws.Tab.{filled-none, filled-all}
 use Rattle.network.specs.State.{knownIn}
-use Rattle.network.specs.Layout.{row-read}
+use Rattle.network.specs.laws.Layout.{row-read}
 use Rattle.network.proofs.load.fill_known.Statement.{statement}
 use Rattle.network.proofs.load.fill_known.Tie as tie
 

@@ -1,6 +1,6 @@
 -- `network::load::network` meets its contract. Assumes nothing.
 use borrow.Author.Needs.{needs}
-use Rattle.network.specs.Opening.{net-is}
+use Rattle.network.specs.laws.Opening.{net-is}
 use Rattle.network.proofs.load.network.Statement.{statement}
 use Rattle.network.proofs.load.network.Tie as tie
 

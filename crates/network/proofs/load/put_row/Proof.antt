@@ -4,7 +4,8 @@ use mathlib.Core.Path.{_≡_}
 use Prim.Native.Nat.{_-_, _≤_}
 use native.Mathlib.Omega.{arith}
 use lib.ListN.{length, length-set}
-use Rattle.network.specs.Layout.{RowStored, stored-none, stored-more}
+use Rattle.network.specs.Layout.{RowStored}
+use Rattle.network.specs.laws.Layout.{stored-none, stored-more}
 use Rattle.network.proofs.load.put_row.Statement.{statement}
 use Rattle.network.proofs.load.put_row.Tie as tie
 

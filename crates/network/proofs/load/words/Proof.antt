@@ -4,7 +4,8 @@ use mathlib.Core.Path.{_≡_}
 use Prim.Native.Nat.{ℕ, _-_, _≤_}
 use native.Mathlib.Omega.{arith}
 use lib.ListN.{length-replicate}
-use Rattle.lists.specs.Tab.{Filled, filled-none, filled-more, filled-all}
+use Rattle.lists.specs.Tab.{Filled}
+use Rattle.lists.specs.laws.Tab.{filled-none, filled-more, filled-all}
 use Rattle.network.specs.State.{wordIn, word}
 use Rattle.network.proofs.load.words.Statement.{statement}
 use Rattle.network.proofs.load.words.Tie as tie

@@ -5,10 +5,11 @@ use mathlib.Core.Logic.{⊎-elim}
 use Prim.Native.Nat.{ℕ, _-_, _≤_}
 use native.Mathlib.Omega.{arith}
 use lib.ListN.{getD}
-use Rattle.sets.specs.Bools.{not-yes, not-no}
-use Rattle.sets.specs.Any.{all, all-start}
+use Rattle.sets.specs.laws.Bools.{not-yes, not-no}
+use Rattle.sets.specs.Any.{all}
+use Rattle.sets.specs.laws.Any.{all-start}
 use Rattle.network.specs.RowWords.{wordRight}
-use Rattle.network.specs.Tests.{all-keep, all-lost}
+use Rattle.network.proofs.Tests.{all-keep, all-lost}
 use Rattle.network.proofs.rows.all_right.Statement.{statement}
 use Rattle.network.proofs.rows.all_right.Tie as tie
 

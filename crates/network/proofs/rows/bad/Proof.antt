@@ -5,7 +5,8 @@ use mathlib.Core.Bool.{not}
 use Prim.Native.Nat.{ℕ, _-_, _≤_}
 use native.Mathlib.Omega.{arith}
 use lib.ListN.{getD}
-use Rattle.sets.specs.Least.{lowestOf, lowestOf-all, lowestOf-start, lowestOf-on, lowestOf-found}
+use Rattle.sets.specs.Least.{lowestOf}
+use Rattle.sets.specs.laws.Least.{lowestOf-all, lowestOf-start, lowestOf-on, lowestOf-found}
 use Rattle.network.specs.RowWords.{wordRight, badWord}
 use Rattle.network.proofs.rows.bad.Statement.{statement}
 use Rattle.network.proofs.rows.bad.Tie as tie

@@ -1,8 +1,8 @@
 -- `network::rules::absent_fault` meets its contract. Assumes nothing.
 use borrow.Author.Needs.{needs}
 use mathlib.Core.Path.{sym, _∙_}
-use Rattle.network.specs.Faults.{fault-2, fault-empty}
-use Rattle.network.specs.Tests.{row-empty-why, row-empty-not}
+use Rattle.network.specs.laws.Faults.{fault-2, fault-empty}
+use Rattle.network.proofs.Tests.{row-empty-why, row-empty-not}
 use borrow.Author.Needs.{needs}
 use Rattle.network.proofs.rules.absent_fault.Statement.{statement}
 use Rattle.network.proofs.rules.absent_fault.Tie as tie

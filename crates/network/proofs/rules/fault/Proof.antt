@@ -3,7 +3,7 @@ use borrow.Author.Needs.{needs}
 use mathlib.Core.Path.{sym, _∙_}
 use native.Mathlib.Omega.{arith}
 use Rattle.network.specs.Network.{withPresent, withPubs}
-use Rattle.network.specs.Faults.{fault-head, fault-absent, fault-present}
+use Rattle.network.specs.laws.Faults.{fault-head, fault-absent, fault-present}
 use Rattle.network.proofs.rules.fault.Statement.{statement}
 use Rattle.network.proofs.rules.fault.Tie as tie
 

@@ -1,6 +1,6 @@
 -- `network::rules::join` meets its contract. Assumes nothing.
 use borrow.Author.Needs.{needs}
-use Rattle.network.specs.Joining.{Joins, joins-none, joins-more, joins-all}
+use Rattle.network.proofs.Gathering.{Joins, joins-none, joins-more, joins-all}
 use native.Mathlib.Omega.{arith}
 use Rattle.network.proofs.rules.join.Statement.{statement}
 use Rattle.network.proofs.rules.join.Tie as tie

@@ -2,8 +2,8 @@
 use borrow.Author.Needs.{needs}
 use mathlib.Core.Path.{sym, _∙_}
 use native.Mathlib.Omega.{arith}
-use Rattle.sets.specs.Bools.{not-yes, not-no}
-use Rattle.network.specs.Backing.{Backs, backs-none, backs-more, backs-all, backs-not}
+use Rattle.sets.specs.laws.Bools.{not-yes, not-no}
+use Rattle.network.proofs.ListingBack.{Backs, backs-none, backs-more, backs-all, backs-not}
 use Rattle.network.proofs.rules.list_back.Statement.{statement}
 use Rattle.network.proofs.rules.list_back.Tie as tie
 

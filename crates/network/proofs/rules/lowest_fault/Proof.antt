@@ -4,11 +4,12 @@ use mathlib.Core.Path.{_≡_}
 use Prim.Native.Nat.{ℕ, _-_, _≤_}
 use native.Mathlib.Omega.{arith}
 use lib.ListN.{getD}
-use Rattle.sets.specs.Least.{lowestOf, lowestOf-start}
+use Rattle.sets.specs.Least.{lowestOf}
+use Rattle.sets.specs.laws.Least.{lowestOf-start}
 use Rattle.network.specs.declared.Network.{Network}
 use Rattle.network.specs.Network.{withAll}
 use Rattle.network.specs.Rules.{faulty}
-use Rattle.network.specs.Faults.{faulty-on, faulty-found, faulty-none}
+use Rattle.network.specs.laws.Faults.{faulty-on, faulty-found, faulty-none}
 use Rattle.network.proofs.rules.lowest_fault.Statement.{statement}
 use Rattle.network.proofs.rules.lowest_fault.Tie as tie
 

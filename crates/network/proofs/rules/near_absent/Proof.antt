@@ -2,8 +2,8 @@
 use borrow.Author.Needs.{needs}
 use mathlib.Core.Path.{sym, ap, _∙_}
 use Rattle.sets.specs.Set.{lowest}
-use Rattle.sets.specs.Lowest.{lowest-none}
-use Rattle.network.specs.Tests.{near-lowest}
+use Rattle.sets.specs.laws.Lowest.{lowest-none}
+use Rattle.network.proofs.Tests.{near-lowest}
 use borrow.Author.Needs.{needs}
 use Rattle.network.proofs.rules.near_absent.Statement.{statement}
 use Rattle.network.proofs.rules.near_absent.Tie as tie

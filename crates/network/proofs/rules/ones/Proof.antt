@@ -8,7 +8,7 @@ use lib.Dec.{eqb}
 use lib.ListN.{getD}
 use borrow.Author.Tests.{eq-eqb, ne-eqb}
 use Rattle.sets.specs.Set.{setOf}
-use Rattle.sets.specs.Build.{fill-none, fill-yes, fill-no}
+use Rattle.sets.specs.laws.Build.{fill-none, fill-yes, fill-no}
 use Rattle.network.proofs.rules.ones.Statement.{statement}
 use Rattle.network.proofs.rules.ones.Tie as tie
 

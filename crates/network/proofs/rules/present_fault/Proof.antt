@@ -3,12 +3,12 @@ use borrow.Author.Needs.{needs}
 use mathlib.Core.Path.{_≡_, sym, ap, _∙_}
 use mathlib.Core.Bool.{true, not}
 use borrow.Author.Tests.{eq-eqb, ne-eqb}
-use Rattle.sets.specs.Bools.{not-yes, not-no}
+use Rattle.sets.specs.laws.Bools.{not-yes, not-no}
 use Rattle.network.specs.declared.Network.{Network}
 use Rattle.network.specs.Network.{withPresent, withSubs, withNeighbours, withPending, withSeen, withKnown}
 use Rattle.network.specs.Rules.{ownRight, nearRight, backRight, knownRight, apartRight}
-use Rattle.network.specs.Faults.{fault-3, fault-4, fault-5, fault-6, fault-7, fault-none}
-use Rattle.network.specs.Tests.{rule-kept, rule-broken, near-is, back-is, same-is}
+use Rattle.network.specs.laws.Faults.{fault-3, fault-4, fault-5, fault-6, fault-7, fault-none}
+use Rattle.network.proofs.Tests.{rule-kept, rule-broken, near-is, back-is, same-is}
 use borrow.Author.Needs.{needs}
 use Rattle.network.proofs.rules.present_fault.Statement.{statement}
 use Rattle.network.proofs.rules.present_fault.Tie as tie

@@ -7,8 +7,10 @@ use native.Mathlib.Omega.{arith}
 use lib.Dec.{eqb}
 use lib.ListN.{getD}
 use borrow.Author.Tests.{eq-eqb, ne-eqb}
-use Rattle.sets.specs.Any.{all, all-start}
-use Rattle.network.specs.Tests.{all-keep, all-lost, rowEmpty}
+use Rattle.sets.specs.Any.{all}
+use Rattle.sets.specs.laws.Any.{all-start}
+use Rattle.network.specs.Tests.{rowEmpty}
+use Rattle.network.proofs.Tests.{all-keep, all-lost}
 use Rattle.network.proofs.rules.row_empty.Statement.{statement}
 use Rattle.network.proofs.rules.row_empty.Tie as tie
 

@@ -5,8 +5,10 @@ use mathlib.Core.Bool.{not}
 use Prim.Native.Nat.{ℕ, _-_, _≤_}
 use native.Mathlib.Omega.{arith}
 use borrow.Author.Tests.{eq-eqb, ne-eqb}
-use Rattle.sets.specs.Least.{lowestOf, lowestOf-all, lowestOf-start, lowestOf-on, lowestOf-found}
-use Rattle.network.specs.Tests.{knownAt, rowKnown, known-at}
+use Rattle.sets.specs.Least.{lowestOf}
+use Rattle.sets.specs.laws.Least.{lowestOf-all, lowestOf-start, lowestOf-on, lowestOf-found}
+use Rattle.network.specs.Tests.{knownAt, rowKnown}
+use Rattle.network.proofs.Tests.{known-at}
 use Rattle.network.proofs.rules.row_known.Statement.{statement}
 use Rattle.network.proofs.rules.row_known.Tie as tie
 

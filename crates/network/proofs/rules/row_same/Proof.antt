@@ -8,8 +8,9 @@ use lib.Dec.{eqb}
 use lib.ListN.{getD}
 use borrow.Author.Tests.{eq-eqb, ne-eqb}
 use Rattle.sets.specs.Set.{meet}
-use Rattle.sets.specs.Any.{all, all-start}
-use Rattle.network.specs.Tests.{all-keep, all-lost}
+use Rattle.sets.specs.Any.{all}
+use Rattle.sets.specs.laws.Any.{all-start}
+use Rattle.network.proofs.Tests.{all-keep, all-lost}
 use Rattle.network.proofs.rules.row_same.Statement.{statement}
 use Rattle.network.proofs.rules.row_same.Tie as tie
 

@@ -5,7 +5,7 @@ use Prim.Native.Nat.{_-_, _≤_}
 use native.Mathlib.Omega.{arith}
 use Rattle.lists.specs.Tab.{tab}
 use Rattle.network.specs.Tests.{subscribersOf}
-use Rattle.network.specs.Joining.{upTo, subscribers-none, subscribers-more}
+use Rattle.network.proofs.Gathering.{upTo, subscribers-none, subscribers-more}
 use Rattle.network.proofs.rules.subscribers.Statement.{statement}
 use Rattle.network.proofs.rules.subscribers.Tie as tie
 

@@ -5,7 +5,8 @@ use Prim.Native.Nat.{ℕ, _-_, _≤_}
 use native.Mathlib.Omega.{arith}
 use lib.ListN.{length-replicate}
 use Rattle.sets.specs.Set.{has, digit}
-use Rattle.lists.specs.Tab.{Filled, filled-none, filled-more, filled-all}
+use Rattle.lists.specs.Tab.{Filled}
+use Rattle.lists.specs.laws.Tab.{filled-none, filled-more, filled-all}
 use Rattle.network.proofs.store.heads.Statement.{statement}
 use Rattle.network.proofs.store.heads.Tie as tie
 

@@ -4,8 +4,9 @@ use mathlib.Core.Path.{_≡_, refl, ap, _∙_}
 use Prim.Native.Nat.{_-_, _≤_}
 use native.Mathlib.Omega.{arith}
 use lib.ListN.{length}
-use Rattle.endian.specs.Le.{length-putLe}
-use Rattle.network.specs.Storing.{putRow, putRow-more}
+use Rattle.endian.specs.laws.Le.{length-putLe}
+use Rattle.network.specs.Storing.{putRow}
+use Rattle.network.specs.laws.Storing.{putRow-more}
 use Rattle.network.proofs.store.row.Statement.{statement}
 use Rattle.network.proofs.store.row.Tie as tie
 

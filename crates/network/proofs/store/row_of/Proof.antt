@@ -4,7 +4,8 @@ use mathlib.Core.Path.{_≡_, refl}
 use Prim.Native.Nat.{ℕ, _+_, _-_, _≤_}
 use native.Mathlib.Omega.{arith}
 use lib.ListN.{getD, length-replicate}
-use Rattle.lists.specs.Tab.{Filled, filled-none, filled-more, filled-all}
+use Rattle.lists.specs.Tab.{Filled}
+use Rattle.lists.specs.laws.Tab.{filled-none, filled-more, filled-all}
 use Rattle.network.proofs.store.row_of.Statement.{statement}
 use Rattle.network.proofs.store.row_of.Tie as tie
 

@@ -1,6 +1,6 @@
 -- `network::store::words` meets its contract. Assumes nothing.
 use borrow.Author.Needs.{needs}
-use Rattle.network.specs.Storing.{head-chain}
+use Rattle.network.specs.laws.Storing.{head-chain}
 use borrow.Author.Needs.{needs}
 use Rattle.network.proofs.store.words.Statement.{statement}
 use Rattle.network.proofs.store.words.Tie as tie

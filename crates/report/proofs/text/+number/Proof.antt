@@ -2,8 +2,8 @@
 use borrow.Author.Needs.{needs}
 use Prim.Native.Nat.{ℕ, _<_}
 use native.Mathlib.Omega.{arith}
-use Rattle.report.specs.TextLaws.{length-small, length-more}
-use Rattle.report.specs.Write.{wrote-small, wrote-tenth}
+use Rattle.report.specs.laws.TextLaws.{length-small, length-more}
+use Rattle.report.proofs.Write.{wrote-small, wrote-tenth}
 use borrow.Fn.Kinds.{In}
 use borrow.Fn.PlainCycle.{Measures, is, falls, and}
 use Rattle.report.proofs.text.number.Reads as number

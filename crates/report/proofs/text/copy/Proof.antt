@@ -3,7 +3,8 @@ use borrow.Author.Needs.{needs}
 use mathlib.Core.Path.{_≡_}
 use Prim.Native.Nat.{_+_, _-_, _≤_}
 use lib.ListN.{length, take, length-set}
-use Rattle.report.specs.Write.{Wrote, wrote-none-yet, wrote-next, wrote-all}
+use Rattle.report.specs.Write.{Wrote}
+use Rattle.report.proofs.Write.{wrote-none-yet, wrote-next, wrote-all}
 use Rattle.report.proofs.text.copy.Statement.{statement}
 use Rattle.report.proofs.text.copy.Tie as tie
 

@@ -1,6 +1,6 @@
 -- `report::text::newline` meets its contract. Assumes nothing.
 use borrow.Author.Needs.{needs}
-use Rattle.report.specs.Write.{wrote-one}
+use Rattle.report.proofs.Write.{wrote-one}
 use Rattle.report.proofs.text.newline.Statement.{statement}
 use Rattle.report.proofs.text.newline.Tie as tie
 

@@ -4,7 +4,7 @@ use mathlib.Core.Path.{_∙_}
 use lib.ListN.{length-set}
 use native.Mathlib.Omega.{arith}
 use Rattle.report.specs.Text.{spaced}
-use Rattle.report.specs.Write.{wrote-one, wrote-then}
+use Rattle.report.proofs.Write.{wrote-one, wrote-then}
 use Rattle.report.proofs.text.spaced.Statement.{statement}
 use Rattle.report.proofs.text.spaced.Tie as tie
 

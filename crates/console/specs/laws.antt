@@ -1,0 +1,2 @@
+-- Laws of what specs/ defines, for the crates above and for proofs. Assumes nothing.
+pub mod Settled

@@ -1,0 +1,3 @@
+-- Laws of what specs/ defines, for the crates above and for proofs. Assumes nothing.
+pub mod Edit
+pub mod Tab

@@ -1,0 +1,4 @@
+pub mod Gathering
+pub mod ListingBack
+pub mod RowWords
+pub mod Tests

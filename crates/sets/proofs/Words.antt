@@ -1,0 +1,55 @@
+-- What the code computes, `a & !b`, `w | (1 << i)` and the others, is what the definitions say. Stated once, over the width k. Assumes nothing.
+use mathlib.Core.Path.{_≡_, sym, ap, _∙_}
+use mathlib.Core.Bool.{Bool, true, not, _&&_}
+use Prim.Native.Nat.{ℕ, zero, suc, _-_, _*_, _/_, _%_, _^_, _<_}
+use native.Mathlib.Nat.{not-suc-le-zero, le-of-suc-le-suc, mod-eq-of-lt, one-mul}
+use native.Mathlib.Omega.{arith}
+use lib.Dec.{eqb}
+use lib.Pow.{pow-pos, pow-lt}
+use lib.Bits.{bitAnd, bitOr, bitXor, xor-add-and, and-mask}
+use Rattle.sets.specs.laws.Bools.{apart, apart-true}
+use Rattle.sets.specs.Set.{has, union, meet, minus, only}
+use Rattle.sets.specs.laws.Members.{has-first, has-rest, has-meet, has-xor, ext-below, has-minus}
+use Rattle.sets.specs.laws.Bounds.{meet-lt, minus-lt, only-lt}
+
+-- A word of k bits that are all set has every number below k.
+has-all : (k i : ℕ) → i < k → has (2 ^ k - 1) i ≡ true
+has-all zero i h = absurd (not-suc-le-zero h)
+has-all (suc k) zero h = has-first (2 ^ suc k - 1) ∙ ap (λ (x : ℕ). eqb x 1) (odd-all k)
+  where
+    odd-all : (k : ℕ) → (2 ^ suc k - 1) % 2 ≡ 1
+    odd-all k = omega (arith, pow-pos k)
+has-all (suc k) (suc i) h = has-rest (2 ^ suc k - 1) i ∙ ap (λ (x : ℕ). has x i) (half-all k) ∙ has-all k i (le-of-suc-le-suc h)
+  where
+    half-all : (k : ℕ) → (2 ^ suc k - 1) / 2 ≡ 2 ^ k - 1
+    half-all k = omega (arith, pow-pos k)
+
+-- `!b` turns each of its k bits.
+rest-xor : (k b : ℕ) → b < 2 ^ k → (2 ^ k - 1) - b ≡ bitXor b (2 ^ k - 1)
+rest-xor k b h = omega (arith, xor-add-and b (2 ^ k - 1), and-mask b k, mod-eq-of-lt h)
+
+-- `!b` has the numbers below k that b has not.
+pub has-rest-of : (k b i : ℕ) → b < 2 ^ k → i < k → has ((2 ^ k - 1) - b) i ≡ not (has b i)
+has-rest-of k b i h l =
+    ap (λ (x : ℕ). has x i) (rest-xor k b h) ∙ has-xor b (2 ^ k - 1) i ∙ ap (apart (has b i)) (has-all k i l) ∙ apart-true (has b i)
+
+-- `a & !b` is the difference.
+pub and-not : (k a b : ℕ) → a < 2 ^ k → b < 2 ^ k → bitAnd a ((2 ^ k - 1) - b) ≡ minus a b
+unfolding meet
+and-not k a b ha hb =
+    ext-below k (meet a ((2 ^ k - 1) - b)) (minus a b) (meet-lt k a ((2 ^ k - 1) - b) ha) (minus-lt k a b ha)
+    (λ i l. has-meet a ((2 ^ k - 1) - b) i ∙ ap (λ (y : Bool). has a i && y) (has-rest-of k b i hb l) ∙ sym (has-minus a b i))
+
+-- `1 << i` is the set of i.
+pub shl-only : (k i : ℕ) → i < k → (1 * 2 ^ i) % 2 ^ k ≡ only i
+unfolding only
+shl-only k i h = let l : 1 * 2 ^ i < 2 ^ k = omega (arith, pow-lt h) in mod-eq-of-lt l ∙ one-mul (2 ^ i)
+
+-- `w | (1 << i)` is w with i.
+pub or-shl : (k w i : ℕ) → i < k → bitOr w ((1 * 2 ^ i) % 2 ^ k) ≡ union w (only i)
+unfolding union
+or-shl k w i h = ap (union w) (shl-only k i h)
+
+-- `w & !(1 << i)` is w without i.
+pub and-not-shl : (k w i : ℕ) → w < 2 ^ k → i < k → bitAnd w ((2 ^ k - 1) - (1 * 2 ^ i) % 2 ^ k) ≡ minus w (only i)
+and-not-shl k w i hw hi = ap (λ (x : ℕ). bitAnd w ((2 ^ k - 1) - x)) (shl-only k i hi) ∙ and-not k w (only i) hw (only-lt k i hi)

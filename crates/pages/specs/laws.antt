@@ -12,3 +12,4 @@ pub mod RunReached
 pub mod RunStops
 pub mod Settled
 pub mod StartPageLaws
+pub mod UntouchedPage

@@ -10,7 +10,7 @@ use Rattle.network.specs.laws.Network.{bare}
 use Rattle.floodnet.specs.View.{fwd}
 use Rattle.floodnet.specs.Lent.{withMessages}
 use Rattle.network.specs.Network.{table}
-use Rattle.drain.specs.Pairs.{Walk, walk-none, walk-more, walk-done}
+use Rattle.drain.specs.laws.Pairs.{Walk, walk-none, walk-more, walk-done}
 use Rattle.drain.proofs.AtOnceForwards.{all-at-once}
 use Rattle.drain.proofs.drain_peer.Statement.{statement}
 use Rattle.drain.proofs.drain_peer.Tie as tie

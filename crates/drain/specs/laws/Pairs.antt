@@ -1,20 +1,98 @@
 -- Laws of specs/Pairs.antt. Assumes nothing.
-use mathlib.Core.Path.{_≡_, refl, sym, ap, ap₂, _∙_}
-use mathlib.Core.Bool.{Bool, true, cond, _&&_}
+use mathlib.Core.Path.{_≡_, refl, sym, ap, _∙_, ap₂}
+use mathlib.Core.Logic.{_⊎_, inl, inr}
+use mathlib.Core.Bool.{Bool, true, false, cond, _&&_}
 use mathlib.Core.List.{List, [], _∷_, _++_}
-use Prim.Native.Nat.{ℕ, zero, suc, _+_, _-_, _^_, _<_}
+use Prim.Native.Nat.{ℕ, zero, suc, _+_, _-_, _^_, _≤_, _<_}
+use native.Mathlib.Nat.{sub-zero}
 use native.Mathlib.Omega.{arith}
 use lib.Dec.{eqb}
-use lib.ListN.{getD}
+use lib.ListN.{length, getD, take}
+use lib.Seq.{take-nil}
+use Rattle.sets.specs.Set.{has, minus, only, lowest, count, digit}
+use Rattle.sets.specs.laws.Bools.{below-suc, bool-ext, and-both, and-yes}
+use Rattle.sets.specs.laws.Members.{has-none, has-without, has-without-other}
+use Rattle.sets.specs.laws.Bounds.{minus-lt}
+use Rattle.sets.specs.laws.Lowest.{lowest-has, lowest-least, lowest-lt}
+use Rattle.flooding.specs.Machine.{Pair, pair, run, todo, row}
 use borrow.Author.Tests.{eqb-true, eq-eqb}
-use Rattle.sets.specs.Set.{has, digit, count}
 use Rattle.sets.specs.laws.Sums.{sum-same, sum-zero}
-use Rattle.sets.specs.laws.Bools.{bool-ext, and-both, and-yes}
 use Rattle.sets.specs.laws.Counts.{size-count, size-empty}
-use Rattle.sets.specs.laws.Members.{has-none}
 use Rattle.flooding.specs.Network.{Net}
-use Rattle.flooding.specs.Machine.{Pair, pair, row, todo}
 use Rattle.drain.specs.Pairs.{pairsOf, listOf}
+
+-- Without members there is none.
+pub pairs-none : (p w k : ℕ) → ((m : ℕ) → m < k → has w m ≡ false) → pairsOf p w k ≡ []
+unfolding pairsOf
+pairs-none p w zero h = refl
+pairs-none p w (suc k) h = rw (pairs-none p w k (λ m l. h m (omega arith)), h k (omega arith))
+
+-- A member with none below it comes first; then come the others.
+pub pairs-first : (p w m k : ℕ) → has w m ≡ true → ((j : ℕ) → j < m → has w j ≡ false) → m < k → pairsOf p w k ≡ pair p m ∷ pairsOf p (minus w (only m)) k
+unfolding pairsOf
+pairs-first p w m zero e none l = absurd (omega arith)
+pairs-first p w m (suc k) e none l = first (below-suc m k l) (λ l′. pairs-first p w m k e none l′)
+  where
+    first : (m < k) ⊎ (m ≡ k) → (m < k → pairsOf p w k ≡ pair p m ∷ pairsOf p (minus w (only m)) k)
+        → pairsOf p w k ++ cond (has w k) (pair p k ∷ []) [] ≡ pair p m ∷ (pairsOf p (minus w (only m)) k ++ cond (has (minus w (only m)) k) (pair p k ∷ []) [])
+    first (inl l′) ih = rw (ih l′, has-without-other w m k (λ (d : m ≡ k). omega arith))
+    first (inr d) ih =
+        rw (← d, pairs-none p w m none, pairs-none p (minus w (only m)) m (λ j b. has-without-other w m j (λ (x : m ≡ j). omega arith) ∙ none j b), e, has-without w m)
+
+-- The least member comes first.
+pub pairs-lowest : (p w : ℕ) → 0 < w → w < 2 ^ 64 → pairsOf p w 64 ≡ pair p (lowest 64 w) ∷ pairsOf p (minus w (only (lowest 64 w))) 64
+pairs-lowest p w h b = pairs-first p w (lowest 64 w) 64 (lowest-has 64 w h b) (lowest-least 64 w) (lowest-lt 64 w h b)
+
+-- ---- forwards of one peer, while the budget lasts
+
+-- What such a loop keeps: the pairs of `rest` are still to be forwarded, as far as what is left of the budget goes; then all is done.
+module _ {S : Type 0} (fwd : S → ℕ → ℕ → S) (start : S) (p todo left : ℕ) where
+  pub record Walk (now : S) (rest made : ℕ) : Type 0 where
+    pub below : rest < 2 ^ 64
+    pub within : made ≤ left
+    pub state : run fwd now (take (left - made) (pairsOf p rest 64)) ≡ run fwd start (take left (pairsOf p todo 64))
+    pub count : made + length (take (left - made) (pairsOf p rest 64)) ≡ length (take left (pairsOf p todo 64))
+
+  -- before the loop
+  pub walk-none : todo < 2 ^ 64 → Walk start todo 0
+  walk-none h =
+      record {
+        below = h;
+        within = omega arith;
+        state = rw (sub-zero left);
+        count = rw (sub-zero left) (omega arith);
+      }
+
+  -- one forward more, of the least that is left
+  pub walk-more : {now now′ : S} {rest rest′ made m : ℕ} → Walk now rest made → 0 < rest → made < left → m ≡ lowest 64 rest → rest′ ≡ minus rest (only (lowest 64 rest))
+      → now′ ≡ fwd now p m → Walk now′ rest′ (made + 1)
+  unfolding run
+  walk-more {now} {now′} {rest} {rest′} {made} {m} v h l em er e =
+      record {
+        below = rw er (minus-lt 64 rest (only (lowest 64 rest)) (v .below));
+        within = omega arith;
+        state = rw e (ap (λ (x : List Pair). run fwd now x) (sym front) ∙ v .state);
+        count = omega (arith, ap length front, v .count);
+      }
+    where
+      front : take (left - made) (pairsOf p rest 64) ≡ pair p m ∷ take (left - (made + 1)) (pairsOf p rest′ 64)
+      front =
+          let k : left - made ≡ suc (left - (made + 1)) = omega arith in
+          rw (k, pairs-lowest p rest h (v .below), em, er)
+
+  -- after it: nothing is left, or the budget is spent
+  pub walk-done : {now : S} {rest made : ℕ} → Walk now rest made → (rest ≡ 0) ⊎ (made ≡ left)
+      → (made ≡ length (take left (pairsOf p todo 64))) × (now ≡ run fwd start (take left (pairsOf p todo 64)))
+  unfolding run
+  walk-done {now} {rest} {made} v o =
+      let e : take (left - made) (pairsOf p rest 64) ≡ [] = empty o in
+      (omega (arith, ap length e, v .count), sym (ap (λ (x : List Pair). run fwd now x) e) ∙ v .state)
+    where
+      empty : (rest ≡ 0) ⊎ (made ≡ left) → take (left - made) (pairsOf p rest 64) ≡ []
+      empty (inl d) = rw (d, pairs-none p 0 64 (λ m l. has-none m)) (take-nil (left - made))
+      empty (inr d) =
+          let k : left - made ≡ 0 = omega arith in
+          rw k
 
 -- ---- how many are pending
 

@@ -39,8 +39,8 @@ use Rattle.engine.specs.RunCounts.{kindAt}
 use Rattle.engine.specs.laws.RunCounts.{kinds, Counts, run-counts}
 use Rattle.engine.specs.laws.RunSound.{Keeps, run-keeps}
 use Rattle.pages.specs.laws.RunBefore.{refused-after}
-use Rattle.pages.specs.RunReached.{reached, Along, run-along}
-use Rattle.pages.specs.laws.RunReached.{reached-sound}
+use Rattle.pages.specs.RunReached.{reached}
+use Rattle.pages.specs.laws.RunReached.{Along, run-along, reached-sound}
 use Rattle.pages.specs.RunPage.{netIn, tableIn, RunRefused, RunDone, TurnPage, AlongPage, RunPage}
 
 -- the record at a place

@@ -85,7 +85,9 @@ fn forward_set(
     requires { ⌜ p .0 < 32 ⌝ }
     requires { ⌜ ((i : ℕ) → getD (now topics) i 0 < 32) ⌝ }
     requires { ⌜ ByTopic (now topics) (now words) ⌝ }
-    ensures { λ z. ⌜ AtOnce (now (known .entry)) (now (topics .entry)) (now (pending .entry)) (now (seen .entry)) (p .0) todo (now (pending .exit)) (now (seen .exit)) ⌝ }
+    ensures { λ z.
+        ⌜ AtOnce (now (known .entry)) (now (topics .entry)) (now (pending .entry)) (now (seen .entry)) (p .0) todo (now (pending .exit))
+        (now (seen .exit)) ⌝ }
 {
     let i = p.0 as usize;
     pending[i] = sets::minus64(pending[i], todo);
@@ -114,7 +116,9 @@ fn drain_peer(
     requires { ⌜ ((i : ℕ) → getD (now topics) i 0 < 32) ⌝ }
     requires { ⌜ ByTopic (now topics) (now words) ⌝ }
     ensures { λ r. ⌜ r ≡ length (take left (pairsOf (p .0) todo 64)) ⌝ }
-    ensures { λ r. ⌜ Leads (now (known .entry)) (now (topics .entry)) (now (pending .entry)) (now (seen .entry)) (take left (pairsOf (p .0) todo 64)) (now (pending .exit)) (now (seen .exit)) ⌝ }
+    ensures { λ r.
+        ⌜ Leads (now (known .entry)) (now (topics .entry)) (now (pending .entry)) (now (seen .entry)) (take left (pairsOf (p .0) todo 64))
+        (now (pending .exit)) (now (seen .exit)) ⌝ }
 {
     if todo == 0 {
         return 0;
@@ -159,7 +163,8 @@ fn drain_listed(
     requires { ⌜ ((i : ℕ) → getD (now topics) i 0 < 32) ⌝ }
     requires { ⌜ ByTopic (now topics) (now words) ⌝ }
     ensures { λ r. ⌜ r ≡ length (take left (listOf (now (listed .entry)) 32)) ⌝ }
-    ensures { λ r. ⌜ Leads (now (known .entry)) (now (topics .entry)) (now (pending .entry)) (now (seen .entry)) (take left (listOf (now (listed .entry)) 32)) (now (pending .exit)) (now (seen .exit)) ⌝ }
+    ensures { λ r. ⌜ Leads (now (known .entry)) (now (topics .entry)) (now (pending .entry)) (now (seen .entry))
+        (take left (listOf (now (listed .entry)) 32)) (now (pending .exit)) (now (seen .exit)) ⌝ }
 {
     let mut made: u32 = 0;
     for p in 0..32 {
@@ -192,7 +197,8 @@ fn drain_round(
     requires { ⌜ ((i : ℕ) → getD (now topics) i 0 < 32) ⌝ }
     requires { ⌜ ByTopic (now topics) (now words) ⌝ }
     ensures { λ r. ⌜ r ≡ length (take left (listOf (now (pending .entry)) 32)) ⌝ }
-    ensures { λ r. ⌜ Leads (now (known .entry)) (now (topics .entry)) (now (pending .entry)) (now (seen .entry)) (take left (listOf (now (pending .entry)) 32)) (now (pending .exit)) (now (seen .exit)) ⌝ }
+    ensures { λ r. ⌜ Leads (now (known .entry)) (now (topics .entry)) (now (pending .entry)) (now (seen .entry))
+        (take left (listOf (now (pending .entry)) 32)) (now (pending .exit)) (now (seen .exit)) ⌝ }
 {
     let listed = *pending;
     drain_listed(
@@ -215,7 +221,8 @@ pub fn drain_all(
     budget: u32,
 ) -> Drains
     requires { ⌜ ((i : ℕ) → getD (now topics) i 0 < 32) ⌝ }
-    ensures { λ r. ⌜ DrainsTo (now (known .entry)) (now (topics .entry)) (now (pending .entry)) (now (seen .entry)) budget (now (pending .exit)) (now (seen .exit)) r ⌝ }
+    ensures { λ r. ⌜ DrainsTo (now (known .entry)) (now (topics .entry)) (now (pending .entry)) (now (seen .entry)) budget (now (pending .exit))
+        (now (seen .exit)) r ⌝ }
 {
     let words = by_topic(&*topics);
     let mut made: u32 = 0;

@@ -1,12 +1,11 @@
 -- What every entry point tests before it begins (document 01, "Numbers returned"): "1 to 5 are tested in that order before any
 -- event". An entry point without events passes 0 for their length, and is never refused by 3. Assumes nothing.
-use mathlib.Core.Bool.{Bool, cond}
+use mathlib.Core.Bool.{cond}
 use mathlib.Core.List.{List}
 use Prim.Native.Nat.{ℕ, _%_}
 use lib.Dec.{eqb}
 use lib.ListN.{length}
 use Rattle.network.specs.declared.Network.{Network}
-use Rattle.network.specs.declared.Table.{Table}
 use Rattle.network.specs.State.{blankNet, openOf}
 use Rattle.network.specs.Rows.{listOf, blankTable}
 use Rattle.engine.specs.declared.Begun.{Begun}

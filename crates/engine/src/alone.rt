@@ -109,8 +109,8 @@ fn forward_saved<'a>(
 ) -> Forwarded
     requires { ⌜ (length (now state) ≡ 5120) × ((i : ℕ) → getD (now topics) i 0 < 32) ⌝ }
     ensures { λ r. ⌜ ((origins : List ℕ) → Gives r (now (state .exit)) (forwardOn (now (state .entry))
-        (mk present (now (pubs .entry)) (now (subs .entry)) (now (neighbours .entry)) (now (pending .entry)) (now (seen .entry)) (now (known .entry)))
-        (table (now (topics .entry)) origins) peer message)) ⌝ }
+        (mk present (now (pubs .entry)) (now (subs .entry)) (now (neighbours .entry)) (now (pending .entry)) (now (seen .entry))
+        (now (known .entry))) (table (now (topics .entry)) origins) peer message)) ⌝ }
 {
     if peer > 31 {
         return forwarded(7, 0, 0);
@@ -147,7 +147,8 @@ fn forward_saved<'a>(
 // buffers untouched"; it answers the number of deliveries.
 #[no_mangle]
 pub extern "C" fn relay_forward(state: &mut [u8], table: &[u8], peer: u8, message: u8) -> Forwarded
-    ensures { λ r. ⌜ (r ≡ forwardOf (now (state .entry)) (now (table .entry)) peer message .answer) × (now (state .exit) ≡ forwardOf (now (state .entry)) (now (table .entry)) peer message .state) ⌝ }
+    ensures { λ r. ⌜ (r ≡ forwardOf (now (state .entry)) (now (table .entry)) peer message .answer) ×
+        (now (state .exit) ≡ forwardOf (now (state .entry)) (now (table .entry)) peer message .state) ⌝ }
 {
     let mut pubs = [0u32; 32];
     let mut subs = [0u32; 32];

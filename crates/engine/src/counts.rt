@@ -33,7 +33,8 @@ pub(crate) fn count_in(
     count: u32,
 )
     requires { ⌜ Room (tally (now produced) (now forwards) (now deliveries)) count ⌝ }
-    ensures { λ z. ⌜ tally (now (produced .exit)) (now (forwards .exit)) (now (deliveries .exit)) ≡ talliedOf (tally (now (produced .entry)) (now (forwards .entry)) (now (deliveries .entry))) kind count ⌝ }
+    ensures { λ z. ⌜ tally (now (produced .exit)) (now (forwards .exit)) (now (deliveries .exit)) ≡ talliedOf
+        (tally (now (produced .entry)) (now (forwards .entry)) (now (deliveries .entry))) kind count ⌝ }
 {
     let t = tallied(
         Tally {

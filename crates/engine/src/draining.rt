@@ -34,7 +34,8 @@ fn done(d: drain::Drains) -> Drained
 // is pending". A refusal leaves the state untouched.
 #[no_mangle]
 pub extern "C" fn relay_drain(state: &mut [u8], table: &[u8], budget: u32) -> Drained
-    ensures { λ r. ⌜ (r ≡ drainEndOf (now (state .entry)) (now (table .entry)) budget .answer) × (now (state .exit) ≡ drainEndOf (now (state .entry)) (now (table .entry)) budget .state) ⌝ }
+    ensures { λ r. ⌜ (r ≡ drainEndOf (now (state .entry)) (now (table .entry)) budget .answer) ×
+        (now (state .exit) ≡ drainEndOf (now (state .entry)) (now (table .entry)) budget .state) ⌝ }
 {
     let mut pubs = [0u32; 32];
     let mut subs = [0u32; 32];

@@ -7,7 +7,8 @@ use crate::alone;
 // "Refusals 1, 5, 18 in that order leave both buffers untouched; the state is never written."
 #[no_mangle]
 pub extern "C" fn relay_image(state: &[u8], image: &mut [u8]) -> Checked
-    ensures { λ r. ⌜ (r ≡ imageAnswerOf (now (state .entry)) (now (image .entry))) × (now (image .exit) ≡ imagedOf (now (state .entry)) (now (image .entry))) ⌝ }
+    ensures { λ r. ⌜ (r ≡ imageAnswerOf (now (state .entry)) (now (image .entry))) ×
+        (now (image .exit) ≡ imagedOf (now (state .entry)) (now (image .entry))) ⌝ }
 {
     let mut pubs = [0u32; 32];
     let mut subs = [0u32; 32];

@@ -13,7 +13,6 @@ mod imaging; // imaging.rt: the image of a state, written to a second buffer
 pub mod running; // running.rt: a run over a list of events
 pub mod start; // start.rt: the refusals 1 to 5
 
-ghost use mathlib.Core.Path.{_≡_};
 ghost use Rattle.engine.specs.Run.{runOf, Ends};
 use network::Network;
 use network::Table;
@@ -90,7 +89,8 @@ pub extern "C" fn relay_run(
     events: &[u8],
     tally: &mut Tally,
 ) -> Answer
-    ensures { λ r. ⌜ Ends r (now (state .exit)) (now (tally .exit)) (runOf (now (state .entry)) (now (table .entry)) (now (events .entry)) (now (tally .entry))) ⌝ }
+    ensures { λ r. ⌜ Ends r (now (state .exit)) (now (tally .exit))
+        (runOf (now (state .entry)) (now (table .entry)) (now (events .entry)) (now (tally .entry))) ⌝ }
 {
     running::run_core(
         state,

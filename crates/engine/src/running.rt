@@ -42,8 +42,14 @@ fn turn(
     read: Read,
 ) -> Turned
     requires { ⌜ ReadFits read × Rows (table (now topics) (now origins)) ⌝ }
-    ensures { λ r. ⌜ mk (now (present .exit)) (now (pubs .exit)) (now (subs .exit)) (now (neighbours .exit)) (now (pending .exit)) (now (seen .exit)) (now (known .exit)) ≡ turnOf (table (now (topics .entry)) (now (origins .entry))) (mk (now (present .entry)) (now (pubs .entry)) (now (subs .entry)) (now (neighbours .entry)) (now (pending .entry)) (now (seen .entry)) (now (known .entry))) read .network ⌝ }
-    ensures { λ r. ⌜ r ≡ turnOf (table (now (topics .entry)) (now (origins .entry))) (mk (now (present .entry)) (now (pubs .entry)) (now (subs .entry)) (now (neighbours .entry)) (now (pending .entry)) (now (seen .entry)) (now (known .entry))) read .turned ⌝ }
+    ensures { λ r.
+        ⌜ mk (now (present .exit)) (now (pubs .exit)) (now (subs .exit)) (now (neighbours .exit)) (now (pending .exit)) (now (seen .exit))
+        (now (known .exit)) ≡ turnOf (table (now (topics .entry)) (now (origins .entry)))
+        (mk (now (present .entry)) (now (pubs .entry)) (now (subs .entry)) (now (neighbours .entry)) (now (pending .entry))
+        (now (seen .entry)) (now (known .entry))) read .network ⌝ }
+    ensures { λ r. ⌜ r ≡ turnOf (table (now (topics .entry)) (now (origins .entry)))
+        (mk (now (present .entry)) (now (pubs .entry)) (now (subs .entry)) (now (neighbours .entry)) (now (pending .entry))
+        (now (seen .entry)) (now (known .entry))) read .turned ⌝ }
     ensures { λ r. ⌜ r .deliveries ≤ 32 ⌝ }
 {
     match read {
@@ -91,7 +97,12 @@ pub(crate) fn run_parts(
     deliveries: &mut u64,
 ) -> Answer
     requires { ⌜ Rows (table (now topics) (now origins)) ⌝ }
-    ensures { λ r. ⌜ RunsTo (ran r (mk (now (present .exit)) (now (pubs .exit)) (now (subs .exit)) (now (neighbours .exit)) (now (pending .exit)) (now (seen .exit)) (now (known .exit)))) (tally (now (produced .exit)) (now (forwards .exit)) (now (deliveries .exit))) (runAll (now (events .entry)) (table (now (topics .entry)) (now (origins .entry))) (mk (now (present .entry)) (now (pubs .entry)) (now (subs .entry)) (now (neighbours .entry)) (now (pending .entry)) (now (seen .entry)) (now (known .entry)))) ⌝ }
+    ensures { λ r. ⌜ RunsTo (ran r
+        (mk (now (present .exit)) (now (pubs .exit)) (now (subs .exit)) (now (neighbours .exit)) (now (pending .exit)) (now (seen .exit))
+        (now (known .exit)))) (tally (now (produced .exit)) (now (forwards .exit)) (now (deliveries .exit)))
+        (runAll (now (events .entry)) (table (now (topics .entry)) (now (origins .entry)))
+        (mk (now (present .entry)) (now (pubs .entry)) (now (subs .entry)) (now (neighbours .entry)) (now (pending .entry))
+        (now (seen .entry)) (now (known .entry)))) ⌝ }
 {
     *produced = 0;
     *forwards = 0;
@@ -198,7 +209,8 @@ fn run_saved(
     requires { ⌜ (length (now state) ≡ 5120) × Rows (table (now topics) (now origins)) ⌝ }
     ensures { λ r. ⌜ Ends r (now (state .exit)) (tally (now (produced .exit)) (now (forwards .exit)) (now (deliveries .exit)))
         (written (runAll (now (events .entry)) (table (now (topics .entry)) (now (origins .entry)))
-        (mk present (now (pubs .entry)) (now (subs .entry)) (now (neighbours .entry)) (now (pending .entry)) (now (seen .entry)) (now (known .entry))))) ⌝ }
+        (mk present (now (pubs .entry)) (now (subs .entry)) (now (neighbours .entry)) (now (pending .entry)) (now (seen .entry))
+        (now (known .entry))))) ⌝ }
 {
     let mut here = present;
     let ended = run_parts(
@@ -240,7 +252,9 @@ pub(crate) fn run_core(
     forwards: &mut u64,
     deliveries: &mut u64,
 ) -> Answer
-    ensures { λ r. ⌜ Ends r (now (state .exit)) (tally (now (produced .exit)) (now (forwards .exit)) (now (deliveries .exit))) (runOf (now (state .entry)) (now (table .entry)) (now (events .entry)) (tally (now (produced .entry)) (now (forwards .entry)) (now (deliveries .entry)))) ⌝ }
+    ensures { λ r. ⌜ Ends r (now (state .exit)) (tally (now (produced .exit)) (now (forwards .exit)) (now (deliveries .exit)))
+        (runOf (now (state .entry)) (now (table .entry)) (now (events .entry))
+        (tally (now (produced .entry)) (now (forwards .entry)) (now (deliveries .entry)))) ⌝ }
 {
     let mut pubs = [0u32; 32];
     let mut subs = [0u32; 32];

@@ -52,7 +52,9 @@ pub(crate) fn start(
     known: &mut [u32; 1024],
 ) -> Started
     requires { ⌜ length (now known) ≡ 1024 ⌝ }
-    ensures { λ r. ⌜ begunAs r (mk (r .present) (now (pubs .exit)) (now (subs .exit)) (now (neighbours .exit)) (now (pending .exit)) (now (seen .exit)) (now (known .exit))) ≡ beginOf (now (state .entry)) (now (table .entry)) events ⌝ }
+    ensures { λ r.
+        ⌜ begunAs r (mk (r .present) (now (pubs .exit)) (now (subs .exit)) (now (neighbours .exit)) (now (pending .exit)) (now (seen .exit))
+        (now (known .exit))) ≡ beginOf (now (state .entry)) (now (table .entry)) events ⌝ }
 {
     if state.len() != 5120 {
         return unstarted(1, 0);

@@ -41,8 +41,14 @@ pub fn step(
     e: Event,
 ) -> Turned
     requires { ⌜ EventFits e × Rows (table (now topics) (now origins)) ⌝ }
-    ensures { λ r. ⌜ ((n : Network) → withAll n (now (present .exit)) (now (pubs .exit)) (now (subs .exit)) (now (neighbours .exit)) (now (pending .exit)) (now (seen .exit)) (now (known .exit)) ≡ after (withAll n (now (present .entry)) (now (pubs .entry)) (now (subs .entry)) (now (neighbours .entry)) (now (pending .entry)) (now (seen .entry)) (now (known .entry))) (table (now (topics .entry)) (now (origins .entry))) e) ⌝ }
-    ensures { λ r. ⌜ ((n : Network) → r ≡ turnedOf (withAll n (now (present .entry)) (now (pubs .entry)) (now (subs .entry)) (now (neighbours .entry)) (now (pending .entry)) (now (seen .entry)) (now (known .entry))) (table (now (topics .entry)) (now (origins .entry))) e) ⌝ }
+    ensures { λ r.
+        ⌜ ((n : Network) → withAll n (now (present .exit)) (now (pubs .exit)) (now (subs .exit)) (now (neighbours .exit)) (now (pending .exit))
+        (now (seen .exit)) (now (known .exit)) ≡ after
+        (withAll n (now (present .entry)) (now (pubs .entry)) (now (subs .entry)) (now (neighbours .entry)) (now (pending .entry))
+        (now (seen .entry)) (now (known .entry))) (table (now (topics .entry)) (now (origins .entry))) e) ⌝ }
+    ensures { λ r. ⌜ ((n : Network) → r ≡ turnedOf
+        (withAll n (now (present .entry)) (now (pubs .entry)) (now (subs .entry)) (now (neighbours .entry)) (now (pending .entry))
+        (now (seen .entry)) (now (known .entry))) (table (now (topics .entry)) (now (origins .entry))) e) ⌝ }
     ensures { λ r. ⌜ r .deliveries ≤ 32 ⌝ }
 {
     match e {

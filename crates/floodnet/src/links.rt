@@ -20,7 +20,8 @@ pub(crate) fn subscribe(
     topics: u32,
 )
     requires { ⌜ p .0 < 32 ⌝ }
-    ensures { λ z. ⌜ ((n : Network) → withLinks n (now (subs .exit)) (now (neighbours .entry)) (now (known .exit)) ≡ subscribedTo (withLinks n (now (subs .entry)) (now (neighbours .entry)) (now (known .entry))) p topics) ⌝ }
+    ensures { λ z. ⌜ ((n : Network) → withLinks n (now (subs .exit)) (now (neighbours .entry)) (now (known .exit)) ≡ subscribedTo
+        (withLinks n (now (subs .entry)) (now (neighbours .entry)) (now (known .entry))) p topics) ⌝ }
 {
     let i = p.0 as usize;
     subs[i] = sets::union32(subs[i], topics);
@@ -36,7 +37,8 @@ pub(crate) fn unsubscribe(
     topics: u32,
 )
     requires { ⌜ p .0 < 32 ⌝ }
-    ensures { λ z. ⌜ ((n : Network) → withLinks n (now (subs .exit)) (now (neighbours .entry)) (now (known .exit)) ≡ unsubscribedFrom (withLinks n (now (subs .entry)) (now (neighbours .entry)) (now (known .entry))) p topics) ⌝ }
+    ensures { λ z. ⌜ ((n : Network) → withLinks n (now (subs .exit)) (now (neighbours .entry)) (now (known .exit)) ≡ unsubscribedFrom
+        (withLinks n (now (subs .entry)) (now (neighbours .entry)) (now (known .entry))) p topics) ⌝ }
 {
     let i = p.0 as usize;
     subs[i] = sets::minus32(subs[i], topics);
@@ -52,7 +54,8 @@ pub(crate) fn link_up(
     who: u32,
 )
     requires { ⌜ p .0 < 32 ⌝ }
-    ensures { λ z. ⌜ ((n : Network) → withLinks n (now (subs .entry)) (now (neighbours .exit)) (now (known .exit)) ≡ linkUp (withLinks n (now (subs .entry)) (now (neighbours .entry)) (now (known .entry))) p who) ⌝ }
+    ensures { λ z. ⌜ ((n : Network) → withLinks n (now (subs .entry)) (now (neighbours .exit)) (now (known .exit)) ≡ linkUp
+        (withLinks n (now (subs .entry)) (now (neighbours .entry)) (now (known .entry))) p who) ⌝ }
 {
     let i = p.0 as usize;
     neighbours[i] = sets::union32(neighbours[i], who);
@@ -64,7 +67,8 @@ pub(crate) fn link_up(
 // Both sides forget: p and each of `who` neither list nor know each other.
 pub(crate) fn link_down(neighbours: &mut [u32; 32], known: &mut [u32; 1024], p: Peer, who: u32)
     requires { ⌜ p .0 < 32 ⌝ }
-    ensures { λ z. ⌜ ((n : Network) → withKnown (withNeighbours n (now (neighbours .exit))) (now (known .exit)) ≡ linkDown (withKnown (withNeighbours n (now (neighbours .entry))) (now (known .entry))) p who) ⌝ }
+    ensures { λ z. ⌜ ((n : Network) → withKnown (withNeighbours n (now (neighbours .exit))) (now (known .exit)) ≡ linkDown
+        (withKnown (withNeighbours n (now (neighbours .entry))) (now (known .entry))) p who) ⌝ }
 {
     let i = p.0 as usize;
     neighbours[i] = sets::minus32(neighbours[i], who);
@@ -85,7 +89,11 @@ pub(crate) fn clear(
     p: Peer,
 )
     requires { ⌜ p .0 < 32 ⌝ }
-    ensures { λ z. ⌜ ((n : Network) → withAll n (now (present .exit)) (now (pubs .exit)) (now (subs .exit)) (now (neighbours .exit)) (now (pending .exit)) (now (seen .exit)) (now (known .exit)) ≡ cleared (withAll n (now (present .entry)) (now (pubs .entry)) (now (subs .entry)) (now (neighbours .entry)) (now (pending .entry)) (now (seen .entry)) (now (known .entry))) p) ⌝ }
+    ensures { λ z.
+        ⌜ ((n : Network) → withAll n (now (present .exit)) (now (pubs .exit)) (now (subs .exit)) (now (neighbours .exit)) (now (pending .exit))
+        (now (seen .exit)) (now (known .exit)) ≡ cleared
+        (withAll n (now (present .entry)) (now (pubs .entry)) (now (subs .entry)) (now (neighbours .entry)) (now (pending .entry))
+        (now (seen .entry)) (now (known .entry))) p) ⌝ }
 {
     let i = p.0 as usize;
     *present = sets::without32(*present, p.0 as u32);
@@ -107,7 +115,8 @@ pub(crate) fn place(
     b: u32,
 )
     requires { ⌜ p .0 < 32 ⌝ }
-    ensures { λ z. ⌜ ((n : Network) → withTopics n (now (present .exit)) (now (pubs .exit)) (now (subs .exit)) ≡ placed (withTopics n (now (present .entry)) (now (pubs .entry)) (now (subs .entry))) p s b) ⌝ }
+    ensures { λ z. ⌜ ((n : Network) → withTopics n (now (present .exit)) (now (pubs .exit)) (now (subs .exit)) ≡ placed
+        (withTopics n (now (present .entry)) (now (pubs .entry)) (now (subs .entry))) p s b) ⌝ }
 {
     let i = p.0 as usize;
     *present = sets::with32(*present, p.0 as u32);
@@ -127,7 +136,11 @@ pub(crate) fn leave(
     p: Peer,
 )
     requires { ⌜ p .0 < 32 ⌝ }
-    ensures { λ z. ⌜ ((n : Network) → withAll n (now (present .exit)) (now (pubs .exit)) (now (subs .exit)) (now (neighbours .exit)) (now (pending .exit)) (now (seen .exit)) (now (known .exit)) ≡ left (withAll n (now (present .entry)) (now (pubs .entry)) (now (subs .entry)) (now (neighbours .entry)) (now (pending .entry)) (now (seen .entry)) (now (known .entry))) p) ⌝ }
+    ensures { λ z.
+        ⌜ ((n : Network) → withAll n (now (present .exit)) (now (pubs .exit)) (now (subs .exit)) (now (neighbours .exit)) (now (pending .exit))
+        (now (seen .exit)) (now (known .exit)) ≡ left
+        (withAll n (now (present .entry)) (now (pubs .entry)) (now (subs .entry)) (now (neighbours .entry)) (now (pending .entry))
+        (now (seen .entry)) (now (known .entry))) p) ⌝ }
 {
     let who = neighbours[p.0 as usize];
     link_down(neighbours, known, p, who);
@@ -149,7 +162,11 @@ pub(crate) fn join(
     who: u32,
 )
     requires { ⌜ p .0 < 32 ⌝ }
-    ensures { λ z. ⌜ ((n : Network) → withAll n (now (present .exit)) (now (pubs .exit)) (now (subs .exit)) (now (neighbours .exit)) (now (pending .exit)) (now (seen .exit)) (now (known .exit)) ≡ joined (withAll n (now (present .entry)) (now (pubs .entry)) (now (subs .entry)) (now (neighbours .entry)) (now (pending .entry)) (now (seen .entry)) (now (known .entry))) p s b who) ⌝ }
+    ensures { λ z.
+        ⌜ ((n : Network) → withAll n (now (present .exit)) (now (pubs .exit)) (now (subs .exit)) (now (neighbours .exit)) (now (pending .exit))
+        (now (seen .exit)) (now (known .exit)) ≡ joined
+        (withAll n (now (present .entry)) (now (pubs .entry)) (now (subs .entry)) (now (neighbours .entry)) (now (pending .entry))
+        (now (seen .entry)) (now (known .entry))) p s b who) ⌝ }
 {
     clear(present, pubs, subs, neighbours, pending, seen, known, p);
     place(present, pubs, subs, p, s, b);

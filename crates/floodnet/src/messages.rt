@@ -33,8 +33,11 @@ pub fn forward(
     m: Message,
 ) -> u32
     requires { ⌜ (p .0 < 32) × (m .0 < 64) × (getD (now topics) (m .0) 0 < 32) ⌝ }
-    ensures { λ r. ⌜ ((n : Network) (origins : List ℕ) → r ≡ receivers (withMessages n (now (pending .entry)) (now (seen .entry)) (now (known .entry))) (table (now (topics .entry)) origins) p m) ⌝ }
-    ensures { λ r. ⌜ ((n : Network) (origins : List ℕ) → withMessages n (now (pending .exit)) (now (seen .exit)) (now (known .entry)) ≡ forwarded (withMessages n (now (pending .entry)) (now (seen .entry)) (now (known .entry))) (table (now (topics .entry)) origins) p m) ⌝ }
+    ensures { λ r.
+        ⌜ ((n : Network) (origins : List ℕ) → r ≡ receivers (withMessages n (now (pending .entry)) (now (seen .entry)) (now (known .entry)))
+        (table (now (topics .entry)) origins) p m) ⌝ }
+    ensures { λ r. ⌜ ((n : Network) (origins : List ℕ) → withMessages n (now (pending .exit)) (now (seen .exit)) (now (known .entry)) ≡ forwarded
+        (withMessages n (now (pending .entry)) (now (seen .entry)) (now (known .entry))) (table (now (topics .entry)) origins) p m) ⌝ }
 {
     let i = p.0 as usize;
     let b = m.0 as u32;

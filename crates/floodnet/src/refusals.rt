@@ -23,7 +23,9 @@ pub(crate) fn of_produce(
     m: Message,
 ) -> u8
     requires { ⌜ (p .0 < 32) × (m .0 < 64) × (getD (now topics) (m .0) 0 < 32) ⌝ }
-    ensures { λ r. ⌜ ((n : Network) → r ≡ refusalProduce (withPresent (withPubs (withPending (withSeen n (now (seen .entry))) (now (pending .entry))) (now (pubs .entry))) present) (table (now (topics .entry)) (now (origins .entry))) p m) ⌝ }
+    ensures { λ r. ⌜ ((n : Network) → r ≡ refusalProduce
+        (withPresent (withPubs (withPending (withSeen n (now (seen .entry))) (now (pending .entry))) (now (pubs .entry))) present)
+        (table (now (topics .entry)) (now (origins .entry))) p m) ⌝ }
 {
     if !sets::has32(present, p.0 as u32) {
         return 8;

@@ -56,7 +56,10 @@ pub(crate) fn produce(
     m: Message,
 ) -> Turned
     requires { ⌜ (p .0 < 32) × (m .0 < 64) × (getD (now topics) (m .0) 0 < 32) ⌝ }
-    ensures { λ r. ⌜ ((n : Network) → Stepped (withPresent (withPubs (withPending (withSeen n (now (seen .entry))) (now (pending .entry))) (now (pubs .entry))) present) (withPresent (withPubs (withPending (withSeen n (now (seen .entry))) (now (pending .exit))) (now (pubs .entry))) present) (table (now (topics .entry)) (now (origins .entry))) (Event.Produce p m) r) ⌝ }
+    ensures { λ r. ⌜ ((n : Network) → Stepped
+        (withPresent (withPubs (withPending (withSeen n (now (seen .entry))) (now (pending .entry))) (now (pubs .entry))) present)
+        (withPresent (withPubs (withPending (withSeen n (now (seen .entry))) (now (pending .exit))) (now (pubs .entry))) present)
+        (table (now (topics .entry)) (now (origins .entry))) (Event.Produce p m) r) ⌝ }
 {
     let k = refusals::of_produce(present, pubs, pending, seen, topics, origins, p, m);
     if k != 0 {
@@ -76,7 +79,10 @@ pub fn forward(
     m: Message,
 ) -> Turned
     requires { ⌜ (p .0 < 32) × (m .0 < 64) × (getD (now topics) (m .0) 0 < 32) ⌝ }
-    ensures { λ r. ⌜ ((n : Network) (origins : List ℕ) → Stepped (withPresent (withMessages n (now (pending .entry)) (now (seen .entry)) (now (known .entry))) present) (withPresent (withMessages n (now (pending .exit)) (now (seen .exit)) (now (known .entry))) present) (table (now (topics .entry)) origins) (Event.Forward p m) r) ⌝ }
+    ensures { λ r. ⌜ ((n : Network) (origins : List ℕ) → Stepped
+        (withPresent (withMessages n (now (pending .entry)) (now (seen .entry)) (now (known .entry))) present)
+        (withPresent (withMessages n (now (pending .exit)) (now (seen .exit)) (now (known .entry))) present)
+        (table (now (topics .entry)) origins) (Event.Forward p m) r) ⌝ }
 {
     let k = refusals::of_forward(present, pending, p, m);
     if k != 0 {
@@ -96,7 +102,9 @@ pub(crate) fn subscribe(
     topics: u32,
 ) -> Turned
     requires { ⌜ p .0 < 32 ⌝ }
-    ensures { λ r. ⌜ ((n : Network) (b : Table) → Stepped (withPresent (withLinks n (now (subs .entry)) (now (neighbours .entry)) (now (known .entry))) present) (withPresent (withLinks n (now (subs .exit)) (now (neighbours .entry)) (now (known .exit))) present) b (Event.Subscribe p topics) r) ⌝ }
+    ensures { λ r. ⌜ ((n : Network) (b : Table) → Stepped
+        (withPresent (withLinks n (now (subs .entry)) (now (neighbours .entry)) (now (known .entry))) present)
+        (withPresent (withLinks n (now (subs .exit)) (now (neighbours .entry)) (now (known .exit))) present) b (Event.Subscribe p topics) r) ⌝ }
 {
     let k = refusals::of_topics(present, p);
     if k != 0 {
@@ -115,7 +123,10 @@ pub(crate) fn unsubscribe(
     topics: u32,
 ) -> Turned
     requires { ⌜ p .0 < 32 ⌝ }
-    ensures { λ r. ⌜ ((n : Network) (b : Table) → Stepped (withPresent (withLinks n (now (subs .entry)) (now (neighbours .entry)) (now (known .entry))) present) (withPresent (withLinks n (now (subs .exit)) (now (neighbours .entry)) (now (known .exit))) present) b (Event.Unsubscribe p topics) r) ⌝ }
+    ensures { λ r. ⌜ ((n : Network) (b : Table) → Stepped
+        (withPresent (withLinks n (now (subs .entry)) (now (neighbours .entry)) (now (known .entry))) present)
+        (withPresent (withLinks n (now (subs .exit)) (now (neighbours .entry)) (now (known .exit))) present) b (Event.Unsubscribe p topics)
+        r) ⌝ }
 {
     let k = refusals::of_topics(present, p);
     if k != 0 {
@@ -136,7 +147,11 @@ pub(crate) fn leave(
     p: Peer,
 ) -> Turned
     requires { ⌜ p .0 < 32 ⌝ }
-    ensures { λ r. ⌜ ((n : Network) (b : Table) → Stepped (withAll n (now (present .entry)) (now (pubs .entry)) (now (subs .entry)) (now (neighbours .entry)) (now (pending .entry)) (now (seen .entry)) (now (known .entry))) (withAll n (now (present .exit)) (now (pubs .exit)) (now (subs .exit)) (now (neighbours .exit)) (now (pending .exit)) (now (seen .exit)) (now (known .exit))) b (Event.Leave p) r) ⌝ }
+    ensures { λ r. ⌜ ((n : Network) (b : Table) → Stepped
+        (withAll n (now (present .entry)) (now (pubs .entry)) (now (subs .entry)) (now (neighbours .entry)) (now (pending .entry))
+        (now (seen .entry)) (now (known .entry)))
+        (withAll n (now (present .exit)) (now (pubs .exit)) (now (subs .exit)) (now (neighbours .exit)) (now (pending .exit))
+        (now (seen .exit)) (now (known .exit))) b (Event.Leave p) r) ⌝ }
 {
     let k = refusals::of_leave(*present, pending, p);
     if k != 0 {
@@ -158,7 +173,11 @@ pub(crate) fn join(
     j: Joining,
 ) -> Turned
     requires { ⌜ p .0 < 32 ⌝ }
-    ensures { λ r. ⌜ ((n : Network) (b : Table) → Stepped (withAll n (now (present .entry)) (now (pubs .entry)) (now (subs .entry)) (now (neighbours .entry)) (now (pending .entry)) (now (seen .entry)) (now (known .entry))) (withAll n (now (present .exit)) (now (pubs .exit)) (now (subs .exit)) (now (neighbours .exit)) (now (pending .exit)) (now (seen .exit)) (now (known .exit))) b (Event.Join p j) r) ⌝ }
+    ensures { λ r. ⌜ ((n : Network) (b : Table) → Stepped
+        (withAll n (now (present .entry)) (now (pubs .entry)) (now (subs .entry)) (now (neighbours .entry)) (now (pending .entry))
+        (now (seen .entry)) (now (known .entry)))
+        (withAll n (now (present .exit)) (now (pubs .exit)) (now (subs .exit)) (now (neighbours .exit)) (now (pending .exit))
+        (now (seen .exit)) (now (known .exit))) b (Event.Join p j) r) ⌝ }
 {
     let who = j.neighbours;
     let k = refusals::of_join(*present, p, who);

@@ -135,7 +135,11 @@ pub fn open(
     known: &mut [u32; 1024],
 ) -> Looked
     requires { ⌜ length (now known) ≡ 1024 ⌝ }
-    ensures { λ r. ⌜ Opens (now (state .entry)) (mk 0 (now (pubs .entry)) (now (subs .entry)) (now (neighbours .entry)) (now (pending .entry)) (now (seen .entry)) (now (known .entry))) r (mk (r .present) (now (pubs .exit)) (now (subs .exit)) (now (neighbours .exit)) (now (pending .exit)) (now (seen .exit)) (now (known .exit))) ⌝ }
+    ensures { λ r. ⌜ Opens (now (state .entry))
+        (mk 0 (now (pubs .entry)) (now (subs .entry)) (now (neighbours .entry)) (now (pending .entry)) (now (seen .entry))
+        (now (known .entry))) r
+        (mk (r .present) (now (pubs .exit)) (now (subs .exit)) (now (neighbours .exit)) (now (pending .exit)) (now (seen .exit))
+        (now (known .exit))) ⌝ }
 {
     if state.len() != 5120 {
         return Looked {
@@ -188,7 +192,9 @@ pub fn save<'a>(
     state: &mut [u8],
 )
     requires { ⌜ length (now state) ≡ 5120 ⌝ }
-    ensures { λ r. ⌜ now (state .exit) ≡ bytesOf (mk present (now (pubs .entry)) (now (subs .entry)) (now (neighbours .entry)) (now (pending .entry)) (now (seen .entry)) (now (known .entry))) ⌝ }
+    ensures { λ r. ⌜ now (state .exit) ≡ bytesOf
+        (mk present (now (pubs .entry)) (now (subs .entry)) (now (neighbours .entry)) (now (pending .entry)) (now (seen .entry))
+        (now (known .entry))) ⌝ }
 {
     let mut i: u8 = 0;
     while i < 32 {

@@ -146,7 +146,9 @@ fn absent_fault(
     known: &[u32; 1024],
 ) -> u8
     requires { ⌜ p .0 < 32 ⌝ }
-    ensures { λ r. ⌜ ((n : Network) → r ≡ absentFault (withPubs (withSubs (withNeighbours (withPending (withSeen (withKnown n (now (known .entry))) (now (seen .entry))) (now (pending .entry))) (now (neighbours .entry))) (now (subs .entry))) (now (pubs .entry))) p) ⌝ }
+    ensures { λ r. ⌜ ((n : Network) → r ≡ absentFault (withPubs
+        (withSubs (withNeighbours (withPending (withSeen (withKnown n (now (known .entry))) (now (seen .entry))) (now (pending .entry)))
+        (now (neighbours .entry))) (now (subs .entry))) (now (pubs .entry))) p) ⌝ }
 {
     let i = p.0 as usize;
     if pubs[i] != 0 {
@@ -182,7 +184,9 @@ fn present_fault(
     subscribers: &[u32; 32],
 ) -> u8
     requires { ⌜ (p .0 < 32) × (now subscribers ≡ subscribersOf (now subs)) ⌝ }
-    ensures { λ r. ⌜ ((n : Network) → r ≡ presentFault (withPresent (withSubs (withNeighbours (withPending (withSeen (withKnown n (now (known .entry))) (now (seen .entry))) (now (pending .entry))) (now (neighbours .entry))) (now (subs .entry))) present) p) ⌝ }
+    ensures { λ r. ⌜ ((n : Network) → r ≡ presentFault (withPresent
+        (withSubs (withNeighbours (withPending (withSeen (withKnown n (now (known .entry))) (now (seen .entry))) (now (pending .entry)))
+        (now (neighbours .entry))) (now (subs .entry))) present) p) ⌝ }
 {
     let i = p.0 as usize;
     let listed = neighbours[i];
@@ -218,7 +222,9 @@ fn fault(
     subscribers: &[u32; 32],
 ) -> u8
     requires { ⌜ (p .0 < 32) × (now subscribers ≡ subscribersOf (now subs)) ⌝ }
-    ensures { λ r. ⌜ ((n : Network) → r ≡ faultOf head (withAll n present (now (pubs .entry)) (now (subs .entry)) (now (neighbours .entry)) (now (pending .entry)) (now (seen .entry)) (now (known .entry))) p) ⌝ }
+    ensures { λ r. ⌜ ((n : Network) → r ≡ faultOf head
+        (withAll n present (now (pubs .entry)) (now (subs .entry)) (now (neighbours .entry)) (now (pending .entry)) (now (seen .entry))
+        (now (known .entry))) p) ⌝ }
 {
     if 2 <= head {
         return 1;
@@ -249,7 +255,9 @@ pub(crate) fn lowest_fault<'a>(
     seen: &'a [u64; 32],
     known: &'a [u32; 1024],
 ) -> usize
-    ensures { λ r. ⌜ ((n : Network) → r ≡ lowestBy (λ (p : ℕ). getD (now (heads .entry)) p 0) (withAll n present (now (pubs .entry)) (now (subs .entry)) (now (neighbours .entry)) (now (pending .entry)) (now (seen .entry)) (now (known .entry)))) ⌝ }
+    ensures { λ r. ⌜ ((n : Network) → r ≡ lowestBy (λ (p : ℕ). getD (now (heads .entry)) p 0)
+        (withAll n present (now (pubs .entry)) (now (subs .entry)) (now (neighbours .entry)) (now (pending .entry)) (now (seen .entry))
+        (now (known .entry)))) ⌝ }
 {
     let subscribers = subscribers(subs);
     let mut p: u8 = 0;

@@ -1,6 +1,6 @@
 -- `engine::start::begin` meets its contract. Assumes nothing.
 use borrow.Author.Needs.{needs}
-use mathlib.Core.Path.{_≡_, _∙_}
+use mathlib.Core.Path.{_∙_}
 use Rattle.engine.proofs.Lent.{started, started-refused}
 use Rattle.engine.proofs.start.begin.Statement.{statement}
 use Rattle.engine.proofs.start.begin.Tie as tie

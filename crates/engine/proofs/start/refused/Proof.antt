@@ -1,9 +1,6 @@
 -- `engine::start::refused` meets its contract. Assumes nothing.
 use borrow.Author.Needs.{needs}
-use mathlib.Core.Path.{ap}
-use Rattle.network.specs.declared.Network.{Network}
 use Rattle.network.specs.Rows.{blankTable}
-use Rattle.engine.specs.declared.Begun.{Begun}
 use Rattle.engine.proofs.start.refused.Statement.{statement}
 use Rattle.engine.proofs.start.refused.Tie as tie
 

@@ -1,6 +1,6 @@
 -- `engine::start::start` meets its contract. Assumes nothing.
 use borrow.Author.Needs.{needs}
-use mathlib.Core.Path.{_≡_, refl}
+use mathlib.Core.Path.{refl}
 use Rattle.sets.specs.laws.Bools.{ne-eqb}
 use Rattle.engine.specs.laws.StartLaws.{begin-1, begin-2, begin-3, begin-4}
 use Rattle.engine.proofs.Lent.{starts-refused, starts-5, starts-0}

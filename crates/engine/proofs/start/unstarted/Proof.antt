@@ -1,5 +1,4 @@
 -- `engine::start::unstarted` meets its contract. Assumes nothing.
-use borrow.Author.Needs.{needs}
 use mathlib.Core.Path.{refl}
 use Rattle.network.specs.Rows.{blankTable}
 use Rattle.engine.proofs.start.unstarted.Statement.{statement}

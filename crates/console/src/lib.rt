@@ -5,7 +5,7 @@
 // them as they were, and answers how many it wrote. Nothing is asked of its caller: a buffer below 1,024 bytes is left as it was and the answer
 // is 0, and what is printed is never longer. So the program only reads and writes.
 //
-// Read on: specs/Console.antt; its laws in specs/ConsoleLaws.antt, among them 01's short inputs and the tie to the engine's run.
+// Read on: specs/Console.antt; its laws in proofs/ConsoleLaws.antt, among them 01's short inputs and the tie to the engine's run.
 ghost use mathlib.Core.Path.{_≡_};
 ghost use Prim.Native.Nat.{min};
 ghost use Rattle.console.specs.Console.{refusedText, textOf, floodOf, Printed};

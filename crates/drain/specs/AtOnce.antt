@@ -1,5 +1,5 @@
 -- A peer's messages forwarded at once, by words: for each topic, the messages of that topic go to the known subscribers that have not seen
--- them. What the loops keep, part by part; specs/AtOnceForwards.antt: it is what the forwards do one by one. Assumes nothing.
+-- them. What the loops keep, part by part; proofs/AtOnceForwards.antt: it is what the forwards do one by one. Assumes nothing.
 use mathlib.Core.Path.{_≡_}
 use mathlib.Core.Bool.{true}
 use mathlib.Core.List.{List}

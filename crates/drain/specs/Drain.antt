@@ -23,7 +23,7 @@ unfoldable pub drainOf : Table → ℕ → Network → Drained Network
 drainOf b budget n = drain (view b) (fwd b) 32 64 32 budget n
 
 -- the same of any network, sound or not, where 32 rounds need not be enough: each round that is finished forwards a pair, so that as many
--- rounds as the budget has forwards are; of a sound network it is `drainOf` (`drain-within`, specs/DrainLaws.antt)
+-- rounds as the budget has forwards are; of a sound network it is `drainOf` (`drain-within`, specs/laws/DrainLaws.antt)
 unfoldable pub drainWithin : Table → ℕ → Network → Drained Network
 drainWithin b budget n = drain (view b) (fwd b) 32 64 budget budget n
 

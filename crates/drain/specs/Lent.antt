@@ -24,7 +24,7 @@ pub record Answers (d : Drained Network) (last : Network) (r : Drains) : Type 0 
   pub quiet : r .quiet ≡ quietOf (d .end)
 
 -- so it is of the drain of every network that has the lent arrays, sound or not, with every table that has the topics; of a sound one it is
--- `drainOf` (`drains-sound`, specs/LentLaws.antt), and no other answer and arrays will do (`drains-settle`, there)
+-- `drainOf` (`drains-sound`, specs/laws/LentLaws.antt), and no other answer and arrays will do (`drains-settle`, there)
 abbrev pub DrainsTo : (g ts e f : List ℕ) → ℕ → (e′ f′ : List ℕ) → Drains → Type 0
 DrainsTo g ts e f budget e′ f′ r =
     (n : Network) (os : List ℕ) → Answers (drainWithin (table ts os) budget (withMessages n e f g)) (withMessages n e′ f′ g) r

@@ -1,6 +1,6 @@
 -- THE CLIENT'S PAGE: demand 3 of the minutes, sentence by sentence, and what document 01 says of rounds and of the drain, over a network n and
--- its message table b; a desk is a peer. `reach` (specs/ReachLaws.antt) proves the whole page of every sound network and every table of accepted
--- rows. The entry points' bytes are joined to it in the crate engine (specs/DrainingReach.antt, specs/ReachPage.antt). Assumes nothing.
+-- its message table b; a desk is a peer. `reach` (specs/laws/ReachLaws.antt) proves the whole page of every sound network and every table of accepted
+-- rows. The entry points' bytes are joined to it in the crate pages (specs/ReachPage.antt, specs/laws/DrainingReach.antt). Assumes nothing.
 --   How to read it: `x ≡ true` says that x holds, and `x ≡ false` that it does not; `A → B`, if A then B; `(x : A) → B`, B for every x of A;
 --   `A × B`, A and B; `(x : A) × B`, there is an x of A with B; `A ⊎ B`, A or B; `A ↔ B`, A exactly if B; `A → ⊥`, A never.
 --   `refusalForward n p m ≡ 0` says that the forward of m by p is accepted; `drainOf b budget n` has the network at the drain's end, `.end`, and

@@ -3,9 +3,9 @@
 // answer and each lent byte, on acceptance and refusal alike.
 //
 // Read specs/Start.antt (the refusals 1 to 5), specs/Run.antt (a run), specs/Alone.antt (the single forward, reading, writing),
-// specs/Draining.antt and specs/Imaging.antt. What is proved of a run: specs/RunStops.antt and RunBefore.antt (where it stops),
-// RunCounts.antt (what it counts), RunSound.antt (soundness, and the pairs pending balance), RunImages.antt (its images). The other files of
-// specs/ are laws for the proofs of functions; proofs/relay_run is a walk by hand.
+// specs/Draining.antt and specs/Imaging.antt. What follows from the promises, on bytes, is the crate pages. specs/laws/ has laws that others
+// cite (RunCounts.antt: what a run counts; RunSound.antt: soundness, and the pairs pending balance), proofs/ those of the functions' proofs;
+// proofs/relay_run is a walk by hand.
 mod alone; // alone.rt: reading, writing and the single forward
 mod counts; // counts.rt: the update of the tally
 mod draining; // draining.rt: the drain by rounds

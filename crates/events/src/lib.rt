@@ -3,10 +3,10 @@
 //
 // What stands at a place of the event bytes is `readingAt` (specs/Event.antt), in 01's numbers and values: whether a record is
 // there, the number (0, or 6 before 7) and the event. Reading answers the enum `Read`; `readingOf` gives the number and values of
-// each of its cases, and the promises of reading are stated through it. It fixes the case (specs/ReadingLaws.antt), so nothing is
+// each of its cases, and the promises of reading are stated through it. It fixes the case (specs/laws/ReadingLaws.antt), so nothing is
 // lost; `answered` works it out.
-// The record of an event is `recordOf` (specs/Writing.antt). specs/RoundTrip.antt: an event that is read is in range, what was
-// written is read, and 16 bytes that are read are what writing gives. specs/Settled.antt: any two outcomes that satisfy a
+// The record of an event is `recordOf` (specs/Writing.antt). specs/laws/RoundTrip.antt: an event that is read is in range, what was
+// written is read, and 16 bytes that are read are what writing gives. specs/laws/Settled.antt: any two outcomes that satisfy a
 // promise here are equal.
 //
 // `new`, `next` and `event_at` hold a Reader and are proved by walks; callers use `event_at`, or `read_at`.

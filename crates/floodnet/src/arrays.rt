@@ -1,5 +1,5 @@
 // Loops over a lent array of 32 words, one for each peer: the members of a set are visited, the least first. What an array
-// becomes is one `edit` of what it was; the loops' turns are laws of specs/CodeWhen.antt and specs/CodeArrays.antt.
+// becomes is one `edit` of what it was; the loops' turns are laws of proofs/CodeChoices.antt and proofs/CodeArrays.antt.
 ghost use mathlib.Core.Path.{_≡_};
 ghost use Prim.Native.Nat.{_<_};
 ghost use Rattle.sets.specs.Set.{has, only, when, strikes, withIf, sift};

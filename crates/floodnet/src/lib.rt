@@ -1,7 +1,7 @@
 // Floodnet: what the seven events ask and do (document 01, "Events"), on arrays that the caller lends. `step` does one event;
 // its promise is one equation, that the network of the lent arrays becomes `after` (specs/Step.antt), and its answer is
 // `turnedOf`. Read specs/Step.antt, then the definitions it puts together: Refusals, Produce, Forward, Topics, Links. The
-// files specs/Code*.antt are laws that the proofs of functions use.
+// words of the contracts on lent arrays are specs/Lent.antt; proofs/Code*.antt are laws that the proofs of functions use.
 ghost use mathlib.Core.Path.{_≡_};
 ghost use Prim.Native.Nat.{_≤_};
 ghost use Rattle.network.specs.declared.Network.{Network};

@@ -1,6 +1,6 @@
 // Loops over rows of `known`, the lent array of 32 rows of 32 words: the word of topic t at peer q stands at q * 32 + t (`network::spot`).
 // The first four change one row, the others the rows of the members of a set. The loops' turns are laws of
-// specs/CodeWhen.antt, specs/CodeArrays.antt and specs/CodeRows.antt.
+// proofs/CodeChoices.antt, proofs/CodeArrays.antt and proofs/CodeRows.antt.
 ghost use mathlib.Core.Path.{_≡_};
 ghost use Prim.Native.Nat.{_/_, _<_};
 ghost use lib.Dec.{eqb};

@@ -1,4 +1,4 @@
-// An event of each kind: what it asks, and, if nothing refuses it, what it does. A contract `Stepped` (specs/CodeTurns.antt)
+// An event of each kind: what it asks, and, if nothing refuses it, what it does. A contract `Stepped` (proofs/CodeTurns.antt)
 // speaks of every network that has the arrays which the kind touches.
 ghost use mathlib.Core.Path.{_≡_};
 ghost use mathlib.Core.List.{List};

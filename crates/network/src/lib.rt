@@ -1,9 +1,9 @@
 // The network: its working state, what a sound one is, and how it is read from and written to 5,120 bytes (document 01,
 // "Numbers and state", "Records"); and the message table. Each promise is an equation over all bytes and all networks.
 // Read specs/Network.antt (the state and what can be observed of it), specs/Rules.antt (soundness, rule by rule),
-// specs/State.antt (the records) and specs/Rows.antt (the message table). What follows from them: specs/SoundIff.antt (the
-// rules are soundness), specs/SoundLaws.antt (what every sound network has), specs/OpenedSound.antt (what is read is sound),
-// specs/Trips.antt (read and written back, and the reverse), specs/SameNetwork.antt (a network is its observations).
+// specs/State.antt (the records) and specs/Rows.antt (the message table). What follows from them: specs/laws/SoundIff.antt (the
+// rules are soundness), specs/laws/SoundLaws.antt (what every sound network has), specs/laws/OpenedSound.antt (what is read is sound),
+// specs/laws/Trips.antt (read and written back, and the reverse), specs/laws/SameNetwork.antt (a network is its observations).
 mod load;
 mod rows;
 mod rules;

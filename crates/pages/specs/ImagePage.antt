@@ -1,5 +1,5 @@
 -- THE CLIENT'S PAGE OF THE IMAGES: demand 2 of the minutes, "Seen through the commitment map, it is one Broadcastnet step or no change, as tabled", along a
--- run and on bytes. `image-page` (specs/ImagePageLaws.antt) proves it of every outcome of `relay_run` that gets past the refusals 1 to 5.
+-- run and on bytes. `image-page` (specs/laws/ImagePageLaws.antt) proves it of every outcome of `relay_run` that gets past the refusals 1 to 5.
 -- How to read it: `x ≡ y`: x is y; `×`: and, or, with a name in front, there is; `→`: then. The network that the record at place i meets is
 -- `reached ev b n i` (specs/RunPage.antt); `image` is the commitment map (broadcastnet's specs/Commit.antt), `Row` document 01's image table and
 -- `Step` Broadcastnet's step (its specs/Page.antt and Broadcast.antt). Assumes nothing.

@@ -1,7 +1,7 @@
 -- DEMAND 3 FOR FORWARDS OVER BYTES, however a host makes them: by one run over forward records, or by single forwards, one call after another.
 -- The client's page (the crate drain's specs/Reach.antt, which opens with a legend) holds of the bytes that they leave: once nothing is pending
--- these are the drain's, for every order (`same-bytes`). specs/ReachPageLaws.antt proves it of what `relay_run` and `relay_forward` promise:
--- `run-forwards`, `alone-forwards`; and that they refuse none that the page accepts: `run-accepts`, `alone-accepts`. specs/ForwardBytes.antt:
+-- these are the drain's, for every order (`same-bytes`). specs/laws/ReachPageLaws.antt proves it of what `relay_run` and `relay_forward` promise:
+-- `run-forwards`, `alone-forwards`; and that they refuse none that the page accepts: `run-accepts`, `alone-accepts`. specs/laws/ForwardBytes.antt:
 -- every list of accepted forwards has such records (`records-run`). Assumes nothing.
 use mathlib.Core.Path.{_≡_}
 use mathlib.Core.List.{List, [], _∷_}

@@ -1,5 +1,5 @@
 -- THE CLIENT'S PAGE OF A RUN: demand 1 of the minutes, "A refused event stops the list: the state is that after the events before it", and
--- document 01's tally. `run-page` (specs/RunPageLaws.antt) proves it of every outcome that satisfies what `relay_run` promises (`Ends .. (runOf ..)`).
+-- document 01's tally. `run-page` (specs/laws/RunPageLaws.antt) proves it of every outcome that satisfies what `relay_run` promises (`Ends .. (runOf ..)`).
 -- How to read it: `x ≡ y`: x is y; `x ≡ true`: x holds; `×`: and, or, with a name in front, there is; `⊎`: or; `↔`: exactly if; `→`: then;
 -- `→ ⊥`: never, or not. What follows a colon is what is claimed, and the line above it says it in words. Assumes nothing.
 use mathlib.Core.Path.{_≡_}

@@ -1,6 +1,6 @@
 -- THE CLIENT'S PAGE OF THE REFUSALS 1 TO 5: demand 1 of the minutes, "Bad lengths, tables and states are refused by number", and document 01's "1
 -- to 5 are tested in that order before any event". Every entry point with a table begins this way (`beginOf`); one without events has 0 for
--- their length. `start-page` (specs/StartPageLaws.antt) proves it for all bytes.
+-- their length. `start-page` (specs/laws/StartPageLaws.antt) proves it for all bytes.
 -- How to read it: `x ≡ y`: x is y; `×`: and, or, with a name in front, there is; `↔`: exactly if; `→`: then; `→ ⊥`: never, or not. Each line
 -- below is one way to begin, with what it asks before the last arrow, and the number and the place answered behind it. Assumes nothing.
 use mathlib.Core.Path.{_≡_}

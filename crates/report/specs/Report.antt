@@ -54,7 +54,7 @@ unfoldable pub reportOf : ℕ → ℕ → ℕ → Network → Bool → List ℕ
 reportOf number place accepted n shown = firstLine number place accepted ++ cond shown (peerLines n) []
 
 -- The buffer b after a text was put there: the text, then the bytes that stood behind it. A buffer below 1,024 bytes is left as it was:
--- what is printed is never longer (specs/ReportLaws.antt).
+-- what is printed is never longer (proofs/ReportLaws.antt).
 unfoldable pub putIn : List ℕ → List ℕ → List ℕ
 putIn text b = cond (ltb (length b) 1024) b (text ++ drop (length text) b)
 

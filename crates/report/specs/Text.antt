@@ -10,7 +10,7 @@ abbrev pub figure : ℕ → List ℕ
 figure d = (48 + d) ∷ []
 
 -- The decimal digits of x: below 10 the one digit; from 10 on those of x / 10, then the digit x % 10.
--- The first number counts how many digits are left to write at most; specs/TextLaws.antt says that any that is enough gives the same.
+-- The first number counts how many digits are left to write at most; specs/laws/TextLaws.antt says that any that is enough gives the same.
 unfoldable pub digits : ℕ → ℕ → List ℕ
 digits zero x = []
 digits (suc k) x = cond (ltb x 10) (figure x) (digits k (x / 10) ++ figure (x % 10))

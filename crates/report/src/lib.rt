@@ -3,10 +3,10 @@
 //
 // What it promises: `report` writes exactly the bytes of `reportOf` (specs/Report.antt) to the front of a lent buffer, leaves the bytes
 // behind them as they were, and answers how many it wrote. Nothing is asked of its caller: a buffer below 1,024 bytes is left as it was and
-// the answer is 0, and what is printed is never longer than 596 bytes (specs/ReportLaws.antt).
+// the answer is 0, and what is printed is never longer than 596 bytes (proofs/ReportLaws.antt).
 //
-// Read on: specs/Text.antt (decimals), specs/Report.antt (the lines); their laws in specs/TextLaws.antt and specs/ReportLaws.antt; 01's example in
-// specs/Examples.antt; src/text.rt (writing bytes and numbers at a place of the buffer, specs/Write.antt).
+// Read on: specs/Text.antt (decimals), specs/Report.antt (the lines); their laws in specs/laws/TextLaws.antt and proofs/ReportLaws.antt; 01's example in
+// specs/laws/Examples.antt; src/text.rt (writing bytes and numbers at a place of the buffer, specs/Write.antt).
 mod text;
 
 use network::Network;

@@ -1,6 +1,6 @@
 -- THE CLIENT'S PAGE OF THE EVENTS: demand 2 of the minutes, "Each event does what the Floodnet transition of the published model does, with document 01's
 -- changes, and is refused exactly when its conditions fail." One record for each of the seven kinds: by which number it is refused, exactly if
--- what, and what can be observed after it, exactly if what was so before. `floodnet-page` (specs/PageLaws.antt) proves it of every sound network
+-- what, and what can be observed after it, exactly if what was so before. `floodnet-page` (specs/laws/PageLaws.antt) proves it of every sound network
 -- and every table whose rows were accepted; the network after a refused event is the one before it (`after`, specs/Step.antt).
 -- How to read it: `x ≡ y`: x is y; `x ≡ true`: x holds; `x ≡ false`: x does not; `×`: and, or, with a name in front, there is; `⊎`: or; `↔`:
 -- exactly if; `→`: then; `→ ⊥`: never, or not. Observed are (network's specs/Network.antt): present n p; publishes n p t; subscribed n p t;

@@ -90,7 +90,7 @@ holding-sound {n} waiting had s shape held seen apart =
           known = e .known;
         }
 
--- ---- links of a sound network (more of them: network, specs/SoundLaws.antt)
+-- ---- links of a sound network (more of them: network, specs/laws/SoundLaws.antt)
 
 -- A link is listed on both sides or on none.
 pub linked-turn : {n : Network} → Sound n → (p q : Peer) → linked n p q ≡ linked n q p

@@ -1,5 +1,5 @@
 -- Reading a state: what the code has worked out is what `openOf` says. Assumes nothing.
-use mathlib.Core.Path.{_≡_, ap, _∙_}
+use mathlib.Core.Path.{_≡_, sym, ap, _∙_}
 use mathlib.Core.List.{List}
 use Prim.Native.Nat.{ℕ, _%_, _≤_, _<_}
 use lib.Dec.{eqb}
@@ -14,6 +14,7 @@ use Rattle.network.specs.declared.Network.{Network}
 use Rattle.network.specs.Network.{mk}
 use Rattle.network.specs.Rules.{lowestBy}
 use Rattle.network.specs.declared.Looked.{Looked}
+use Rattle.network.specs.declared.Opened.{Opened}
 use Rattle.network.specs.laws.Faults.{lowest-tab}
 use Rattle.network.specs.State.{wordIn, longIn, knownIn, netOf, unsoundAt, blankNet, opened, openOf, openedAs, overOf, Opens}
 
@@ -66,3 +67,10 @@ opens-5 b old p h e l en = record { answer = open-5 b p h e l; arrays = rw (eq-e
 pub opens-0 : (b : List ℕ) (old : Network) (p : ℕ) {n : Network} → length b ≡ 5120 → p ≡ unsoundAt b → 32 ≤ p → n ≡ netOf b → Opens b old (looked 0 0 (n .present)) n
 unfolding openedAs overOf
 opens-0 b old p h e l en = record { answer = open-0 b p h e l en; arrays = rw (eq-eqb (length b) 5120 h) en }
+
+-- any two outcomes that satisfy the promise are equal
+pub settled-opens : {b : List ℕ} {old n m : Network} {r q : Looked} → Opens b old r n → Opens b old q m → (r .number ≡ q .number) × (r .place ≡ q .place) × (n ≡ m)
+unfolding openedAs
+settled-opens x y =
+    let e = x .answer ∙ sym (y .answer) in
+    (ap (λ (o : Opened). o .number) e, ap (λ (o : Opened). o .place) e, x .arrays ∙ sym (y .arrays))

@@ -1,7 +1,7 @@
 -- THE CLIENT'S PAGE OF THE EVENTS: demand 2 of the minutes, "Each event does what the Floodnet transition of the published model does, with document 01's
 -- changes, and is refused exactly when its conditions fail." One record for each of the seven kinds: by which number it is refused, exactly if
 -- what, and what can be observed after it, exactly if what was so before. `floodnet-page` (specs/laws/PageLaws.antt) proves it of every sound network
--- and every table whose rows were accepted; the network after a refused event is the one before it (`after`, specs/Step.antt).
+-- and every table whose rows were accepted; the network after a refused event is the one before it (`after`, floodnet's specs/Step.antt).
 -- How to read it: `x ≡ y`: x is y; `x ≡ true`: x holds; `x ≡ false`: x does not; `×`: and, or, with a name in front, there is; `⊎`: or; `↔`:
 -- exactly if; `→`: then; `→ ⊥`: never, or not. Observed are (network's specs/Network.antt): present n p; publishes n p t; subscribed n p t;
 -- linked n p q, p lists q as a neighbour; knows n p t q, p knows q as a subscriber of t; pending n p m; saw n p m. n is the network before the
@@ -160,7 +160,7 @@ pub record UnsubscribePage (n : Network) (b : Table) (p : Peer) (topics : ℕ) :
 -- ---- leave
 
 -- 004's leave takes a peer that has nothing pending out of the state, and leaves it in its neighbours' maps. 01's change, and the reason for this
--- engine: the neighbours drop the peer and its subscriptions. (specs/Accident.antt has the minutes' own case.)
+-- engine: the neighbours drop the peer and its subscriptions. (floodnet's specs/Accident.antt has the minutes' own case.)
 pub record Leaves (n o : Network) (p : Peer) : Type 0 where
   -- p is absent, with no topics and no messages; the others are as they were
   pub now-present : (q : Peer) → (present o q ≡ true) ↔ ((present n q ≡ true) × (q .0 ≡ p .0 → ⊥))

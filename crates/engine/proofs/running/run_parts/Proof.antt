@@ -30,9 +30,9 @@ head c = c .before .before .before .before .before .before .before .before .befo
 abbrev start : tie.At-loop Inv-loop μ-loop → tie.Start Inv-loop μ-loop
 start h = h .before .before
 
--- the loop's test held
-test : (c : tie.After-event-at Inv-loop μ-loop) → c .before .before .before .before .before .before .before .before .before .loop .place < length (start (head c) .args .events .now) / 16
-test c = c .before .before .before .before .before .before .before .before .loop-test .taken
+-- the place where the loop's test held
+abbrev inside : tie.After-event-at Inv-loop μ-loop → tie.In-loop Inv-loop μ-loop
+inside c = c .before .before .before .before .before .before .before .before
 
 -- the event bytes are fewer than 2 ^ 63
 small : (h : tie.At-loop Inv-loop μ-loop) → 32 * (length (start h .args .events .now) / 16) < 2 ^ 64
@@ -56,27 +56,27 @@ returns : tie.Need-returns Inv-loop μ-loop
 unfolding runAll
 returns c =
     let e = c .before .before .before in
-    runs-as (c .answer .ensures) (ran-stop _ _ _ (head e .loop .inv) (test e) (read-is _ _ _ (e .event-at .ensures)) _ _ (c .before .before .turn .ensures) (c .before .if1 .taken))
+    runs-as (c .answer .ensures) (ran-stop _ _ _ (head e .loop .inv) (inside e .loop-test .taken) (read-is _ _ _ (e .event-at .ensures)) _ _ (c .before .before .turn .ensures) (c .before .if1 .taken))
 
 count-in-requires : tie.Need-count-in-requires Inv-loop μ-loop
 count-in-requires c κs =
     let u = c .before .before .before .before in
     let e = u .before in
-    going-room _ _ _ (head e .loop .inv) (test e) (small (head e)) _ (u .turn .ensures .1 .1)
+    going-room _ _ _ (head e .loop .inv) (inside e .loop-test .taken) (small (head e)) _ (u .turn .ensures .1 .1)
 
 add-place : tie.Need-add-place Inv-loop μ-loop
 add-place c =
     let e = c .before .before .before .before .before .before in
-    record { fits = omega (arith, test e, small (head e)) }
+    record { fits = omega (arith, inside e .loop-test .taken, small (head e)) }
 
 loop-less : tie.Need-loop-less Inv-loop μ-loop
-loop-less c = let e = c .before .before .before .before .before .before in omega (arith, test e)
+loop-less c = let e = c .before .before .before .before .before .before in omega (arith, inside e .loop-test .taken)
 
 loop-again : tie.Need-loop-again Inv-loop μ-loop
 loop-again c =
     let u = c .before .before .before .before .before in
     let e = u .before in
-    ran-on _ _ _ (head e .loop .inv) (test e) (read-is _ _ _ (e .event-at .ensures)) _ _ (u .turn .ensures) (c .before .before .before .before .if1 .left) _ (c .count-in .ensures)
+    ran-on _ _ _ (head e .loop .inv) (inside e .loop-test .taken) (read-is _ _ _ (e .event-at .ensures)) _ _ (u .turn .ensures) (c .before .before .before .before .if1 .left) _ (c .count-in .ensures)
 
 answer-requires-2 : tie.Need-answer-requires-2 Inv-loop μ-loop
 answer-requires-2 c κs = search needs

@@ -18,7 +18,8 @@ use Rattle.floodnet.specs.Produce.{holders, isNew, produced}
 use Rattle.floodnet.specs.Forward.{moved, receivers, given, forwarded}
 use Rattle.floodnet.specs.Topics.{struck, unsubscribedFrom}
 use Rattle.floodnet.specs.Links.{linkUp, linkDown, cleared, placed, left, joined}
-use Rattle.floodnet.specs.Refusals.{need, refusalProduce, refusalForward, refusalTopics, refusalLeave, refusalJoin}
+use Rattle.network.specs.Rules.{need}
+use Rattle.floodnet.specs.Refusals.{refusalProduce, refusalForward, refusalTopics, refusalLeave, refusalJoin}
 use Rattle.floodnet.specs.Step.{refusal, effect}
 use Rattle.broadcastnet.specs.Broadcast.{presentIn, broadcastPartial, audience}
 use Rattle.broadcastnet.specs.Commit.{together, underway, without, image}

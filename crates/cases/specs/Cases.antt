@@ -17,7 +17,8 @@ use Rattle.events.specs.Writing.{fieldsMk, putFields, putHead}
 use Rattle.floodnet.specs.Produce.{holders, isNew, produced}
 use Rattle.floodnet.specs.Forward.{moved, receivers, given, forwarded, deliveries}
 use Rattle.floodnet.specs.Links.{linkUp, linkDown, cleared, placed, left, joined}
-use Rattle.floodnet.specs.Refusals.{need, refusalProduce, refusalForward, refusalLeave, refusalJoin}
+use Rattle.network.specs.Rules.{need}
+use Rattle.floodnet.specs.Refusals.{refusalProduce, refusalForward, refusalLeave, refusalJoin}
 use Rattle.events.specs.Kind.{kindOf}
 use Rattle.floodnet.specs.Step.{refusal, effect, ifAccepted, after, deliveriesOf, turned, turnedOf}
 use Rattle.floodnet.specs.View.{view, fwd}

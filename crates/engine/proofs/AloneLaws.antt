@@ -5,8 +5,8 @@ use Prim.Native.Nat.{ℕ}
 use lib.ListN.{length}
 use Rattle.sets.specs.laws.Bools.{ne-eqb}
 use Rattle.network.specs.declared.Opened.{Opened}
-use Rattle.network.specs.State.{openOf, bytesOf}
-use Rattle.engine.specs.Alone.{checked, checkOf, copyOf, copiedOf}
+use Rattle.network.specs.State.{checked, openOf, bytesOf}
+use Rattle.engine.specs.Alone.{checkOf, copyOf, copiedOf}
 
 pub check-is : {o : Opened} (s : List ℕ) → o ≡ openOf s → checked (o .number) (o .place) ≡ checkOf s
 unfolding checkOf

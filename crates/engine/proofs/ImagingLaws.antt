@@ -6,9 +6,8 @@ use lib.ListN.{length}
 use Rattle.sets.specs.laws.Bools.{ne-eqb}
 use Rattle.network.specs.declared.Network.{Network}
 use Rattle.network.specs.declared.Opened.{Opened}
-use Rattle.network.specs.State.{openOf, bytesOf}
+use Rattle.network.specs.State.{checked, openOf, bytesOf}
 use Rattle.broadcastnet.specs.Commit.{imageNet}
-use Rattle.engine.specs.Alone.{checked}
 use Rattle.engine.proofs.AloneLaws.{check-is}
 use Rattle.engine.specs.Imaging.{imageAnswerOf, imagedOf}
 

@@ -6,12 +6,12 @@ use lib.Dec.{eqb, ltb}
 use lib.ListN.{length}
 use Rattle.network.specs.declared.Network.{Network}
 use Rattle.network.specs.declared.Table.{Table}
+use Rattle.network.specs.declared.Checked.{Checked}
 use Rattle.network.specs.Network.{peer, message}
-use Rattle.network.specs.State.{openOf, bytesOf}
+use Rattle.network.specs.State.{checked, openOf, bytesOf}
 use Rattle.floodnet.specs.Refusals.{refusalForward}
 use Rattle.floodnet.specs.Forward.{forwarded, deliveries}
 use Rattle.engine.specs.declared.Forwarded.{Forwarded}
-use Rattle.engine.specs.declared.Checked.{Checked}
 use Rattle.engine.specs.Start.{beginOf}
 use mathlib.Core.Path.{_≡_}
 
@@ -45,9 +45,6 @@ forwardOf s t p m =
     cond (eqb (g .number) 0) (forwardOn s (g .network) (g .table) p m) (noForward (g .number) (g .place) s)
 
 -- reading alone: "Reading and writing refuse by 1, then 5, and by nothing else"
-abbrev pub checked : ℕ → ℕ → Checked
-checked number place = record { number = number; place = place }
-
 unfoldable pub checkOf : List ℕ → Checked
 checkOf s = checked (openOf s .number) (openOf s .place)
 

@@ -5,10 +5,10 @@ use mathlib.Core.List.{List}
 use Prim.Native.Nat.{ℕ}
 use lib.Dec.{eqb}
 use lib.ListN.{length}
-use Rattle.network.specs.State.{openOf, bytesOf}
+use Rattle.network.specs.declared.Checked.{Checked}
+use Rattle.network.specs.State.{checked, openOf, bytesOf}
 use Rattle.broadcastnet.specs.Commit.{imageNet}
-use Rattle.engine.specs.declared.Checked.{Checked}
-use Rattle.engine.specs.Alone.{checked, checkOf}
+use Rattle.engine.specs.Alone.{checkOf}
 
 -- the answer: "Refusals 1, 5, 18 in that order"; "18 | image buffer isn't 5,120 bytes | 0"
 unfoldable pub imageAnswerOf : List ℕ → List ℕ → Checked

@@ -3,13 +3,13 @@ ghost use mathlib.Core.Path.{_≡_};
 ghost use mathlib.Core.List.{List};
 ghost use Prim.Native.Nat.{ℕ, _<_};
 ghost use lib.ListN.{length, getD};
-ghost use Rattle.network.specs.Network.{mk};
-ghost use Rattle.network.specs.Network.{table};
-ghost use Rattle.engine.specs.Alone.{checked, checkOf, copyOf, copiedOf, forwardOn, forwardOf};
+ghost use Rattle.network.specs.Network.{mk, table};
+ghost use Rattle.network.specs.State.{checked};
+ghost use Rattle.engine.specs.Alone.{checkOf, copyOf, copiedOf, forwardOn, forwardOf};
 ghost use Rattle.engine.specs.Alone.{forwardedBy, Gives};
-use crate::Checked;
 use crate::Forwarded;
 use crate::start;
+use network::Checked;
 use network::Message;
 use network::Peer;
 

@@ -1,8 +1,8 @@
 // The image of a state (document 01, "Commitment map"), written to a second lent buffer.
 ghost use mathlib.Core.Path.{_≡_};
 ghost use Rattle.engine.specs.Imaging.{imageAnswerOf, imagedOf};
-use crate::Checked;
 use crate::alone;
+use network::Checked;
 
 // "Refusals 1, 5, 18 in that order leave both buffers untouched; the state is never written."
 #[no_mangle]

@@ -51,13 +51,6 @@ pub struct Drained {
     pub quiet: bool,
 }
 
-// The answer of an entry point that only reads or writes: 0, or a refusal and its place.
-#[repr(C)]
-pub struct Checked {
-    pub number: u8,
-    pub place: usize,
-}
-
 // What an entry point begins with: 0 and what was read, or the number and place of a refusal.
 pub struct Begun {
     pub number: u8,

@@ -8,8 +8,8 @@ use Rattle.sets.specs.Set.{has, sift}
 use Rattle.network.specs.declared.Topic.{Topic}
 use Rattle.network.specs.declared.Message.{Message}
 use Rattle.network.specs.declared.Network.{Network}
+use Rattle.network.specs.Rules.{need}
 use Rattle.floodnet.specs.Produce.{holders}
-use Rattle.floodnet.specs.Refusals.{need}
 use Rattle.floodnet.specs.Lent.{holding}
 
 -- a condition that fails, and one that holds

@@ -5,7 +5,6 @@ pub mod Links
 pub mod Refusals
 pub mod Step
 pub mod View
-pub mod LinksLaws
 pub mod Accident
 pub mod Lent
 pub mod laws

@@ -1,6 +1,6 @@
 -- What each event asks before it acts (document 01, "Events"): the number of the first condition that fails, or 0. The rows
--- are 01's; the conditions stand in their order. Assumes nothing.
-use mathlib.Core.Bool.{Bool, true, false, not}
+-- are 01's; the conditions stand in their order, each with its number (`need`, network's specs/Rules.antt). Assumes nothing.
+use mathlib.Core.Bool.{not}
 use Prim.Native.Nat.{ℕ}
 use lib.Dec.{eqb}
 use Rattle.sets.specs.Set.{has, minus}
@@ -9,12 +9,8 @@ use Rattle.network.specs.declared.Message.{Message}
 use Rattle.network.specs.declared.Network.{Network}
 use Rattle.network.specs.declared.Table.{Table}
 use Rattle.network.specs.Network.{present, publishes, pending, pendingOf, topicOf, originOf}
+use Rattle.network.specs.Rules.{need}
 use Rattle.floodnet.specs.Produce.{isNew}
-
--- r, if the condition holds, else its number k
-unfoldable pub need : Bool → ℕ → ℕ → ℕ
-need true k r = r
-need false k r = k
 
 -- "1 | produce | peer, message | 8, 10, 11, 12": 8 "peer absent", 10 "producing peer isn't the message's origin", 11 "topic not
 -- in the peer's pubs", 12 "message not new"

@@ -1,4 +1,5 @@
 -- Laws of what specs/ defines, for the crates above and for proofs. Assumes nothing.
+pub mod AccidentLaws
 pub mod CodeVisit
 pub mod ForwardLaws
 pub mod Keeping

@@ -41,21 +41,21 @@ knownRight n p =
 unfoldable pub apartRight : Network → Peer → Bool
 apartRight n p = eqb (meet (pendingOf n p) (seenOf n p)) 0
 
--- a rule and its number: where the rule holds, what comes after it decides
-abbrev pub unless : Bool → ℕ → ℕ → ℕ
-unless true k rest = rest
-unless false k rest = k
+-- a condition and its number: where the condition holds, what comes after it decides, and else the number is answered
+unfoldable pub need : Bool → ℕ → ℕ → ℕ
+need true k rest = rest
+need false k rest = k
 
 -- The first rule that fails, and 0 where none does: 1 presence byte and zero bytes, 2 absent and not empty, 3 own neighbour,
 -- 4 a neighbour absent, 5 a neighbour that doesn't list back, 6 known subscribers wrong, 7 pending also seen.
 unfoldable pub absentFault : Network → Peer → ℕ
-absentFault n p = unless (emptyRight n p) 2 0
+absentFault n p = need (emptyRight n p) 2 0
 
 unfoldable pub presentFault : Network → Peer → ℕ
-presentFault n p = unless (ownRight n p) 3 (unless (nearRight n p) 4 (unless (backRight n p) 5 (unless (knownRight n p) 6 (unless (apartRight n p) 7 0))))
+presentFault n p = need (ownRight n p) 3 (need (nearRight n p) 4 (need (backRight n p) 5 (need (knownRight n p) 6 (need (apartRight n p) 7 0))))
 
 unfoldable pub faultOf : ℕ → Network → Peer → ℕ
-faultOf h n p = unless (headRight h) 1 (cond (eqb h 0) (absentFault n p) (presentFault n p))
+faultOf h n p = need (headRight h) 1 (cond (eqb h 0) (absentFault n p) (presentFault n p))
 
 -- "A peer is present when byte 0 is 1": the first word of p's record as it is written
 abbrev pub headOf : Network → Peer → ℕ

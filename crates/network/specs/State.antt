@@ -15,7 +15,7 @@ use Rattle.network.specs.declared.Peer.{Peer}
 use Rattle.network.specs.declared.Network.{Network}
 use Rattle.network.specs.declared.Opened.{Opened}
 use Rattle.network.specs.declared.Looked.{Looked}
-use Rattle.network.specs.declared.Wrote.{Wrote}
+use Rattle.network.specs.declared.Checked.{Checked}
 use Rattle.network.specs.Network.{peer, topic, mk, pubsOf, subsOf, neighboursOf, pendingOf, seenOf, knownOf}
 use Rattle.network.specs.Rules.{faultOf, headOf, lowestBy, lowestFault}
 
@@ -108,12 +108,12 @@ byteOf n i = wordOf n (i / 4) / 256 ^ (i % 4) % 256
 unfoldable pub bytesOf : Network → List ℕ
 bytesOf n = tab 5120 (byteOf n)
 
-abbrev pub wrote : ℕ → ℕ → Wrote
-wrote number place = record { number = number; place = place }
+abbrev pub checked : ℕ → ℕ → Checked
+checked number place = record { number = number; place = place }
 
 -- the answer, and the buffer afterwards: "a refused write leaves its buffer untouched"
-unfoldable pub writeOf : Network → List ℕ → Wrote
-writeOf n b = cond (eqb (length b) 5120) (cond (ltb (lowestFault n) 32) (wrote 5 (lowestFault n)) (wrote 0 0)) (wrote 1 0)
+unfoldable pub writeOf : Network → List ℕ → Checked
+writeOf n b = cond (eqb (length b) 5120) (cond (ltb (lowestFault n) 32) (checked 5 (lowestFault n)) (checked 0 0)) (checked 1 0)
 
 unfoldable pub writtenOf : Network → List ℕ → List ℕ
 writtenOf n b = cond (eqb (length b) 5120) (cond (ltb (lowestFault n) 32) b (bytesOf n)) b

@@ -55,8 +55,9 @@ pub struct Looked {
     pub present: u32,
 }
 
-// What writing a state answers: the number and the record at fault.
-pub struct Wrote {
+// What an entry point answers that only reads or writes: 0, or the number of a refusal and its place, here the record at fault.
+#[repr(C)]
+pub struct Checked {
     pub number: u8,
     pub place: usize,
 }
@@ -234,11 +235,11 @@ pub fn put(n: Network, state: &mut [u8])
 }
 
 // Writes the network's bytes, if it is sound. Refused by 1, then by 5 with the lowest unsound record; the buffer stays as it was.
-pub fn write(n: Network, state: &mut [u8]) -> Wrote
+pub fn write(n: Network, state: &mut [u8]) -> Checked
     ensures { λ r. ⌜ (r ≡ writeOf n (now (state .entry))) × (now (state .exit) ≡ writtenOf n (now (state .entry))) ⌝ }
 {
     if state.len() != 5120 {
-        return Wrote {
+        return Checked {
             number: 1,
             place: 0,
         };
@@ -255,13 +256,13 @@ pub fn write(n: Network, state: &mut [u8]) -> Wrote
         &n.known,
     );
     if p < 32 {
-        return Wrote {
+        return Checked {
             number: 5,
             place: p,
         };
     }
     put(n, state);
-    Wrote {
+    Checked {
         number: 0,
         place: 0,
     }

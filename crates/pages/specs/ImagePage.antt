@@ -9,7 +9,7 @@ use Prim.Native.Nat.{ℕ, suc, _<_}
 use lib.ListN.{length}
 use Rattle.network.specs.declared.Network.{Network}
 use Rattle.network.specs.declared.Table.{Table}
-use Rattle.network.specs.State.{openOf, opened, bytesOf}
+use Rattle.network.specs.State.{checked, openOf, opened, bytesOf}
 use Rattle.events.specs.declared.Event.{Event}
 use Rattle.events.specs.declared.Read.the-variants.{Taken}
 use Rattle.events.specs.Event.{readAt}
@@ -18,7 +18,6 @@ use Rattle.broadcastnet.specs.Commit.{image, imageNet}
 use Rattle.broadcastnet.specs.Page.{Row}
 use Rattle.broadcastnet.specs.Unchanged.{Unchanged}
 use Rattle.engine.specs.declared.Answer.{Answer}
-use Rattle.engine.specs.Alone.{checked}
 use Rattle.engine.specs.Imaging.{imageAnswerOf, imagedOf}
 use Rattle.pages.specs.RunReached.{reached}
 use Rattle.pages.specs.RunPage.{netIn, tableIn}

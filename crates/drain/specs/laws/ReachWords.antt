@@ -26,7 +26,8 @@ use Rattle.network.specs.Sound.{Sound}
 use Rattle.network.specs.laws.SoundLaws.{pending-present}
 use Rattle.floodnet.specs.Forward.{forwarded}
 use Rattle.floodnet.specs.laws.ForwardLaws.{forwarded-sound}
-use Rattle.floodnet.specs.Refusals.{need, refusalForward}
+use Rattle.network.specs.Rules.{need}
+use Rattle.floodnet.specs.Refusals.{refusalForward}
 use Rattle.floodnet.specs.laws.Places.{has-beyond}
 use Rattle.floodnet.specs.View.{view, fwd}
 use Rattle.floodnet.specs.laws.ViewLaws.{view-linked}

@@ -16,8 +16,7 @@ use Rattle.network.specs.Network.{neighboursOf, present, publishes, subscribed,
 use Rattle.network.specs.Sound.{Sound, Empty}
 use Rattle.floodnet.specs.Links.{linkUp, linkDown, placed, left, joined}
 use Rattle.floodnet.specs.laws.Keeping.{linked-turn}
-use Rattle.floodnet.specs.LinksLaws.{between}
-use Rattle.floodnet.specs.laws.LinksLaws.{linkUp-sound, linkDown-sound, linked-up-all, linked-down-all}
+use Rattle.floodnet.specs.laws.LinksLaws.{between, linkUp-sound, linkDown-sound, linked-up-all, linked-down-all}
 use Rattle.floodnet.specs.laws.RecordLaws.{present-cleared, publishes-cleared, subscribed-cleared, linked-cleared, pending-cleared, saw-cleared, cleared-sound, cleared-absent, present-placed, publishes-placed, subscribed-placed, placed-shaped, placed-sound}
 
 -- ---- leave

@@ -26,7 +26,10 @@ use Rattle.network.specs.laws.SoundLaws.{linked-peer}
 use Rattle.floodnet.specs.Links.{linkUp, linkDown}
 use Rattle.floodnet.specs.laws.Places.{eqb-sym, edit-spot}
 use Rattle.floodnet.specs.laws.Keeping.{edited, shaped-neighbours, shaped-known, linked-turn}
-use Rattle.floodnet.specs.LinksLaws.{between}
+
+-- One of a and c is p, and the other is of `who`: the link is one of those that are recorded or forgotten.
+abbrev pub between : Peer → ℕ → Peer → Peer → Bool
+between p who a c = (eqb (a .0) (p .0) && has who (c .0)) || (eqb (c .0) (p .0) && has who (a .0))
 
 -- ---- the observations, one law each
 

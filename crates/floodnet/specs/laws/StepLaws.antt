@@ -21,10 +21,11 @@ use Rattle.events.specs.declared.Event.the-variants.{Skip, Produce, Forward, Su
 use Rattle.events.specs.declared.kind.Kind.{Kind}
 use Rattle.events.specs.Kind.{kindOf, codeOf, alike}
 use Rattle.events.specs.Fits.{EventFits}
+use Rattle.network.specs.laws.Faults.{need-met}
 use Rattle.floodnet.specs.Produce.{isNew}
 use Rattle.floodnet.specs.Links.{left, linkDown, cleared}
 use Rattle.floodnet.specs.Topics.{subscribedTo, unsubscribedFrom}
-use Rattle.floodnet.specs.Refusals.{need, refusalProduce, refusalForward, refusalTopics, refusalLeave, refusalJoin}
+use Rattle.floodnet.specs.Refusals.{refusalProduce, refusalForward, refusalTopics, refusalLeave, refusalJoin}
 use Rattle.floodnet.specs.Step.{refusal, effect, ifAccepted, after, deliveriesOf}
 use Rattle.floodnet.specs.laws.ProduceLaws.{produced-sound, new-why}
 use Rattle.floodnet.specs.laws.ForwardLaws.{forwarded-sound}
@@ -34,12 +35,6 @@ use Rattle.floodnet.specs.View.{pairs}
 use Rattle.floodnet.specs.laws.ViewCounts.{produced-pairs, forwarded-pairs}
 
 -- ---- what an accepted event met
-
--- a condition was met, and what is asked after it
-need-met : (b : Bool) (k r : ℕ) → need b (suc k) r ≡ 0 → (b ≡ true) × (r ≡ 0)
-unfolding need
-need-met true k r h = (refl, h)
-need-met false k r h = absurd (omega arith)
 
 pub produce-met : (n : Network) (b : Table) (p : Peer) (m : Message) → refusalProduce n b p m ≡ 0
     → (present n p ≡ true) × (originOf b m .0 ≡ p .0) × (publishes n p (topicOf b m) ≡ true) × (isNew n m ≡ true)

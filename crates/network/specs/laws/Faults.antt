@@ -18,12 +18,13 @@ use Rattle.network.specs.declared.Peer.{Peer}
 use Rattle.network.specs.declared.Network.{Network}
 use Rattle.network.specs.Network.{peer, topic, pubsOf, subsOf, neighboursOf, pendingOf, seenOf, knownOf}
 use Rattle.network.specs.Sound.{Empty}
-use Rattle.network.specs.Rules.{emptyRight, ownRight, nearRight, backRight, knownRight, apartRight, unless, absentFault, presentFault, faultOf, faulty, lowestBy}
+use Rattle.network.specs.Rules.{emptyRight, ownRight, nearRight, backRight, knownRight, apartRight, need, absentFault, presentFault, faultOf, faulty, lowestBy}
 
 -- no number is given: the rule holds, and what comes after it gives none either
-pub unless-none : (a : Bool) (k rest : ℕ) → unless a (suc k) rest ≡ 0 → (a ≡ true) × (rest ≡ 0)
-unless-none true k rest h = (refl, h)
-unless-none false k rest h = absurd (omega arith)
+pub need-met : (a : Bool) (k rest : ℕ) → need a (suc k) rest ≡ 0 → (a ≡ true) × (rest ≡ 0)
+unfolding need
+need-met true k rest h = (refl, h)
+need-met false k rest h = absurd (omega arith)
 
 -- six that all hold
 six-yes : (a b c d e f : Bool) → a && (b && (c && (d && (e && f)))) ≡ true → (a ≡ true) × (b ≡ true) × (c ≡ true) × (d ≡ true) × (e ≡ true) × (f ≡ true)
@@ -62,49 +63,49 @@ module _ (n : Network) (p : Peer) where
 
   -- an absent record
   pub fault-2 : (Empty n p → ⊥) → 2 ≡ absentFault n p
-  unfolding absentFault
+  unfolding absentFault need
   fault-2 h = rw (not-false λ e. h (empty-why e))
 
   pub fault-empty : Empty n p → 0 ≡ absentFault n p
-  unfolding absentFault
+  unfolding absentFault need
   fault-empty e = rw (empty-is e)
 
   -- a present record
   pub fault-3 : ownRight n p ≡ false → 3 ≡ presentFault n p
-  unfolding presentFault
+  unfolding presentFault need
   fault-3 a = rw a
 
   pub fault-4 : ownRight n p ≡ true → nearRight n p ≡ false → 4 ≡ presentFault n p
-  unfolding presentFault
+  unfolding presentFault need
   fault-4 a b = rw (a, b)
 
   pub fault-5 : ownRight n p ≡ true → nearRight n p ≡ true → backRight n p ≡ false → 5 ≡ presentFault n p
-  unfolding presentFault
+  unfolding presentFault need
   fault-5 a b c = rw (a, b, c)
 
   pub fault-6 : ownRight n p ≡ true → nearRight n p ≡ true → backRight n p ≡ true → knownRight n p ≡ false → 6 ≡ presentFault n p
-  unfolding presentFault
+  unfolding presentFault need
   fault-6 a b c d = rw (a, b, c, d)
 
   pub fault-7 : ownRight n p ≡ true → nearRight n p ≡ true → backRight n p ≡ true → knownRight n p ≡ true → apartRight n p ≡ false → 7 ≡ presentFault n p
-  unfolding presentFault
+  unfolding presentFault need
   fault-7 a b c d e = rw (a, b, c, d, e)
 
   pub fault-none : ownRight n p ≡ true → nearRight n p ≡ true → backRight n p ≡ true → knownRight n p ≡ true → apartRight n p ≡ true → 0 ≡ presentFault n p
-  unfolding presentFault
+  unfolding presentFault need
   fault-none a b c d e = rw (a, b, c, d, e)
 
   -- by the first word
   pub fault-head : (h : ℕ) → 2 ≤ h → 1 ≡ faultOf h n p
-  unfolding faultOf
+  unfolding faultOf need
   fault-head h l = rw (le-ltb h 2 l)
 
   pub fault-absent : (h : ℕ) → h ≡ 0 → faultOf h n p ≡ absentFault n p
-  unfolding faultOf
+  unfolding faultOf need
   fault-absent h e = rw e
 
   pub fault-present : (h : ℕ) → h ≡ 1 → faultOf h n p ≡ presentFault n p
-  unfolding faultOf
+  unfolding faultOf need
   fault-present h e = rw e
 
 -- ---- the lowest record with a fault

@@ -20,7 +20,7 @@ use Rattle.network.specs.Sound.{Sound}
 use Rattle.network.specs.Rules.{faultOf, headOf}
 use Rattle.network.specs.State.{word, wordIn, long, netOf, unsoundAt, blankNet, opened, openOf}
 use Rattle.network.specs.laws.SoundIff.{faults-sound}
-use Rattle.network.specs.laws.Faults.{unless-none, none-faulty}
+use Rattle.network.specs.laws.Faults.{need-met, none-faulty}
 use Rattle.network.specs.laws.Zeros.{getD-zeros}
 
 -- ---- the network of any bytes has the shape
@@ -56,7 +56,7 @@ net-shaped b h = record {
 -- a record without a fault has a right first word
 pub fault-head-right : (h : ℕ) (n : Network) (p : Peer) → faultOf h n p ≡ 0 → h < 2
 unfolding faultOf
-fault-head-right h n p e = ltb-true h 2 (unless-none (ltb h 2) 0 _ e .0)
+fault-head-right h n p e = ltb-true h 2 (need-met (ltb h 2) 0 _ e .0)
 
 -- "A peer is present when byte 0 is 1": the first word of a record is read and written alike
 pub head-is : (b : List ℕ) (p : ℕ) → p < 32 → wordIn b p 0 < 2 → headOf (netOf b) (peer p) ≡ wordIn b p 0

@@ -24,7 +24,7 @@ use Rattle.network.specs.Sound.{Empty, Sound}
 use Rattle.network.specs.laws.SoundLaws.{linked-peer, linked-other, pending-peer}
 use Rattle.network.specs.Rules.{emptyRight, ownRight, nearRight, backRight, knownRight, apartRight, absentFault, presentFault, headOf}
 use Rattle.network.specs.laws.Rules.{faultIn}
-use Rattle.network.specs.laws.Faults.{unless-none, empty-why, fault-empty, fault-none, fault-absent, fault-present}
+use Rattle.network.specs.laws.Faults.{need-met, empty-why, fault-empty, fault-none, fault-absent, fault-present}
 
 -- ---- a record with no fault keeps every rule
 
@@ -39,16 +39,16 @@ record Keeps (n : Network) (p : Peer) : Type 0 where
 keeps : (n : Network) (p : Peer) → presentFault n p ≡ 0 → Keeps n p
 unfolding presentFault
 keeps n p h =
-    let a = unless-none (ownRight n p) 2 _ h in
-    let b = unless-none (nearRight n p) 3 _ (a .1) in
-    let c = unless-none (backRight n p) 4 _ (b .1) in
-    let d = unless-none (knownRight n p) 5 _ (c .1) in
-    let e = unless-none (apartRight n p) 6 0 (d .1) in
+    let a = need-met (ownRight n p) 2 _ h in
+    let b = need-met (nearRight n p) 3 _ (a .1) in
+    let c = need-met (backRight n p) 4 _ (b .1) in
+    let d = need-met (knownRight n p) 5 _ (c .1) in
+    let e = need-met (apartRight n p) 6 0 (d .1) in
     record { own = a .0; near = b .0; back = c .0; known = d .0; apart = e .0 }
 
 empties : (n : Network) (p : Peer) → absentFault n p ≡ 0 → Empty n p
 unfolding absentFault
-empties n p h = empty-why n p (unless-none (emptyRight n p) 1 0 h .0)
+empties n p h = empty-why n p (need-met (emptyRight n p) 1 0 h .0)
 
 module _ (n : Network) (s : Shaped n) (f : (p : Peer) → p .0 < 32 → faultIn n p ≡ 0) where
   absent-empty : (p : Peer) → p .0 < 32 → present n p ≡ false → Empty n p

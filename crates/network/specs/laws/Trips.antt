@@ -18,7 +18,7 @@ use Rattle.network.specs.Network.{peer, Shaped}
 use Rattle.network.specs.Sound.{Sound}
 use Rattle.network.specs.Rules.{faultOf, lowestFault}
 use Rattle.network.specs.laws.Rules.{faultIn}
-use Rattle.network.specs.State.{word, wordIn, long, longIn, knownIn, netOf, faultAt, blankNet, opened, openOf, wordAt, wordOf, byteOf, bytesOf, wrote, writeOf, writtenOf}
+use Rattle.network.specs.State.{word, wordIn, long, longIn, knownIn, netOf, faultAt, blankNet, opened, openOf, wordAt, wordOf, byteOf, bytesOf, checked, writeOf, writtenOf}
 use Rattle.network.specs.laws.Storing.{word-of, word-known, byte-of}
 use Rattle.network.specs.laws.Zeros.{getD-zeros}
 use Rattle.network.specs.laws.Opening.{open-0}
@@ -192,7 +192,7 @@ write-read {n} s =
 pub sound-lowest : {n : Network} → Sound n → 32 ≡ lowestFault n
 sound-lowest s = faultless _ _ λ p l. sound-faults s (peer p) l
 
-pub write-sound : {n : Network} → Sound n → (b : List ℕ) → length b ≡ 5120 → (wrote 0 0 ≡ writeOf n b) × (bytesOf n ≡ writtenOf n b)
+pub write-sound : {n : Network} → Sound n → (b : List ℕ) → length b ≡ 5120 → (checked 0 0 ≡ writeOf n b) × (bytesOf n ≡ writtenOf n b)
 write-sound {n} s b h = write-0 n b h (sound-lowest s) (omega arith) refl
 
 -- ---- "A blank network is 5,120 zero bytes."

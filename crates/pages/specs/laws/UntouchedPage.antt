@@ -7,13 +7,13 @@ use lib.Dec.{eqb, ltb}
 use lib.ListN.{length}
 use Rattle.sets.specs.laws.Bools.{ne-eqb}
 use Rattle.network.specs.Network.{peer, message}
-use Rattle.network.specs.State.{openOf, bytesOf}
+use Rattle.network.specs.State.{checked, openOf, bytesOf}
 use Rattle.floodnet.specs.Refusals.{refusalForward}
 use Rattle.floodnet.specs.Forward.{forwarded, deliveries}
 use Rattle.broadcastnet.specs.Commit.{imageNet}
 use Rattle.engine.specs.declared.Begun.{Begun}
 use Rattle.engine.specs.Start.{beginOf}
-use Rattle.engine.specs.Alone.{Forwards, noForward, forwardOn, forwardOf, checked, checkOf, copyOf, copiedOf}
+use Rattle.engine.specs.Alone.{Forwards, noForward, forwardOn, forwardOf, checkOf, copyOf, copiedOf}
 use Rattle.engine.specs.Draining.{drainEndOf}
 use Rattle.engine.specs.Imaging.{imageAnswerOf, imagedOf}
 use Rattle.pages.specs.UntouchedPage.{UntouchedPage}

@@ -10,7 +10,7 @@ use Rattle.sets.specs.laws.Bools.{clash, and-both, and-yes, or-left, or-right, 
 use Rattle.sets.specs.Set.{has, lowest}
 use Rattle.sets.specs.laws.Members.{has-none, below-pow}
 use Rattle.sets.specs.laws.Lowest.{lowest-has, none-empty}
-use Rattle.floodnet.specs.Refusals.{need}
+use Rattle.network.specs.Rules.{need}
 
 -- ---- several at once
 

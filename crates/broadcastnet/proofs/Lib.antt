@@ -1,4 +1,1 @@
-pub mod Messages
-pub mod Members
-pub mod Refines
 pub mod Figure

@@ -13,5 +13,4 @@ pub mod StepLaws
 pub mod TopicsLaws
 pub mod View
 pub mod ViewCounts
-pub mod ViewFloods
 pub mod ViewLaws

@@ -1,5 +1,5 @@
 -- How long what is printed can be, and the loop that writes the lines of the peers. Assumes nothing.
-use mathlib.Core.Path.{_≡_, sym, _∙_}
+use mathlib.Core.Path.{_≡_, _∙_}
 use mathlib.Core.Bool.{Bool, true, false, cond}
 use mathlib.Core.List.{List, [], _++_, append-nil}
 use Prim.Native.Nat.{ℕ, zero, suc, _+_, _*_, _^_, _≤_, _<_}
@@ -23,7 +23,7 @@ length-first number place accepted a b c =
     simp length-append (omega (arith, length-byte number a, spaced-long place b, spaced-long accepted c))
 
 -- A peer's line, no number in it above 99: 5 + 2 + 1 + 2 + 1 + 2 + 1 + 2 + 1.
-pub length-counts : (p a b c : ℕ) → p < 100 → a < 100 → b < 100 → c < 100 → length (countLine p a b c) ≤ 17
+length-counts : (p a b c : ℕ) → p < 100 → a < 100 → b < 100 → c < 100 → length (countLine p a b c) ≤ 17
 unfolding countLine peerWord
 length-counts p a b c hp ha hb hc =
     simp length-append (omega (arith, length-count p hp, spaced-count a ha, spaced-count b hb, spaced-count c hc))
@@ -104,11 +104,6 @@ unfolding reportOf
 reported-all number place accepted n shown e h v w = reported number place accepted n shown e (omega arith) (rw h (wrote-then v (w .0)))
 
 -- ---- what the promise of `report` comes to
-
--- It settles the answer and every byte.
-pub reported-once : {number place accepted : ℕ} {n : Network} {shown : Bool} {l r s : List ℕ} {i j : ℕ} → Reported number place accepted n shown l r i
-    → Reported number place accepted n shown l s j → (i ≡ j) × (r ≡ s)
-reported-once v w = (v .count ∙ sym (w .count), v .bytes ∙ sym (w .bytes))
 
 -- In a buffer of 1,024 bytes or more: all of the text, and behind it what stood there.
 pub reported-whole : {number place accepted : ℕ} {n : Network} {shown : Bool} {l r : List ℕ} {j : ℕ} → 1024 ≤ length l

@@ -11,7 +11,7 @@ use Rattle.report.specs.laws.TextLaws.{decimal-small, decimal-more}
 use Rattle.report.specs.Write.{written, Wrote}
 
 -- as a cut and a paste, where there is room
-pub written-is : (l : List ℕ) (at : ℕ) (bs : List ℕ) → at + length bs ≤ length l → written l at bs ≡ take at l ++ bs ++ drop (at + length bs) l
+written-is : (l : List ℕ) (at : ℕ) (bs : List ℕ) → at + length bs ≤ length l → written l at bs ≡ take at l ++ bs ++ drop (at + length bs) l
 unfolding written
 written-is l at bs h = sets-eq bs l at h
 

@@ -10,8 +10,8 @@ use Rattle.flooding.specs.Counts.{pendingPairs}
 use Rattle.flooding.specs.Machine.{due, drain, rounds}
 use Rattle.flooding.specs.Page.{Floods}
 use Rattle.flooding.specs.laws.Loop.{due-length, drain-budget}
-use Rattle.flooding.proofs.Floods.{floods}
-use Rattle.flooding.proofs.Drain.{drain-fuel}
+use Rattle.flooding.specs.laws.Floods.{floods}
+use Rattle.flooding.specs.laws.Drain.{drain-fuel}
 use Rattle.network.specs.declared.Network.{Network}
 use Rattle.network.specs.declared.Table.{Table}
 use Rattle.network.specs.Network.{Rows}

@@ -11,9 +11,9 @@ use Rattle.flooding.specs.Network as flooding
 use Rattle.flooding.specs.Network.{holds}
 use Rattle.flooding.specs.Machine.{run, due, round, rounds}
 use Rattle.flooding.specs.Page.{Floods, Drains, Finishes}
-use Rattle.flooding.proofs.Floods.{held-or-linked, floods, run-ok}
-use Rattle.flooding.proofs.Drain.{drain-law, drain-finishes}
-use Rattle.flooding.proofs.Within.{within}
+use Rattle.flooding.specs.laws.Floods.{held-or-linked, floods, run-ok}
+use Rattle.flooding.specs.laws.Drain.{drain-law, drain-finishes}
+use Rattle.flooding.specs.laws.Within.{within}
 use Rattle.network.specs.declared.Peer.{Peer}
 use Rattle.network.specs.declared.Message.{Message}
 use Rattle.network.specs.declared.Network.{Network}

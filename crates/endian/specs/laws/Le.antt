@@ -3,7 +3,6 @@ use Prim.Native.Nat.{ℕ, zero, suc, _+_, _*_, _/_, _%_, _^_, _≤_, _<_}
 use native.Mathlib.Nat.{div-add-mod', mod-eq-of-lt, mod-lt}
 use native.Mathlib.Omega.{arith}
 use mathlib.Core.Path.{_≡_, refl, sym, _∙_}
-use mathlib.Core.Logic.{_⊎_, inl, inr}
 use mathlib.Core.List.{List, [], _∷_}
 use lib.ListN.{length, getD, set, length-set}
 use lib.Pow.{mod-mod-pow, field}
@@ -77,14 +76,6 @@ before-putLe (suc n) bs at x i h =
     before-putLe n (set bs at (x % 256)) (suc at) (x / 256) i (omega arith)
     ∙ getD-set-other bs at i (x % 256) 0 (λ e. omega arith)
 
--- A byte past the number is not touched.
-pub after-putLe : (n : ℕ) (bs : List ℕ) (at x i : ℕ) → at + n ≤ i → getD (putLe n bs at x) i 0 ≡ getD bs i 0
-unfolding putLe
-after-putLe zero bs at x i h = refl
-after-putLe (suc n) bs at x i h =
-    after-putLe n (set bs at (x % 256)) (suc at) (x / 256) i (omega arith)
-    ∙ getD-set-other bs at i (x % 256) 0 (λ e. omega arith)
-
 -- What is read depends on its n bytes alone.
 pub le-same : (n : ℕ) (bs cs : List ℕ) (at : ℕ) → ((i : ℕ) → at ≤ i → i < at + n → getD bs i 0 ≡ getD cs i 0) → le n bs at ≡ le n cs at
 unfolding le
@@ -93,11 +84,6 @@ le-same (suc n) bs cs at h =
     let e = h at (omega arith) (omega arith) in
     let r = le-same n bs cs (suc at) (λ i a b. h i (omega arith) (omega arith)) in
     cc
-
--- What is read at another place, before or past the one that is written, stays.
-pub le-putLe-other : (k n : ℕ) (bs : List ℕ) (at x j : ℕ) → (j + k ≤ at) ⊎ (at + n ≤ j) → le k (putLe n bs at x) j ≡ le k bs j
-le-putLe-other k n bs at x j (inl h) = le-same k (putLe n bs at x) bs j (λ i a b. before-putLe n bs at x i (omega arith))
-le-putLe-other k n bs at x j (inr h) = le-same k (putLe n bs at x) bs j (λ i a b. after-putLe n bs at x i (omega arith))
 
 -- ---- round trips
 
@@ -113,12 +99,6 @@ le-putLe (suc n) bs at x h f =
     let d = div-add-mod' x 256 in
     let r = le-putLe n cs (suc at) (x / 256) (omega arith) (omega arith) in
     omega arith
-
-pub le-putLe-4 : (bs : List ℕ) (at x : ℕ) → at + 4 ≤ length bs → x < 2 ^ 32 → le 4 (putLe 4 bs at x) at ≡ x
-le-putLe-4 bs at x h f = le-putLe 4 bs at x h (rw span-4 f)
-
-pub le-putLe-8 : (bs : List ℕ) (at x : ℕ) → at + 8 ≤ length bs → x < 2 ^ 64 → le 8 (putLe 8 bs at x) at ≡ x
-le-putLe-8 bs at x h f = le-putLe 8 bs at x h (rw span-8 f)
 
 -- The lowest byte of what is read, and the others.
 le-parts : (n : ℕ) (bs : List ℕ) (at : ℕ) → Bytes bs → (le (suc n) bs at % 256 ≡ getD bs at 0) × (le (suc n) bs at / 256 ≡ le n bs (suc at))

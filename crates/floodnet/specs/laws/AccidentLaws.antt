@@ -13,10 +13,9 @@ use Rattle.sets.specs.laws.Bools.{clash, not-false, and-no, eqb-same, ne-eqb, o
 use Rattle.sets.specs.laws.Members.{has-none}
 use Rattle.network.specs.declared.Peer.{Peer}
 use Rattle.network.specs.declared.Topic.{Topic}
-use Rattle.network.specs.declared.Message.{Message}
 use Rattle.network.specs.declared.Network.{Network}
-use Rattle.network.specs.Network.{peer, topic, spot, pendingOf, seenOf, present, publishes, subscribed, linked, pending, saw, knows}
-use Rattle.network.specs.Sound.{Sound, Empty}
+use Rattle.network.specs.Network.{peer, topic, spot, present, subscribed, linked, pending, knows}
+use Rattle.network.specs.Sound.{Sound}
 use Rattle.floodnet.specs.Links.{left, joined}
 use Rattle.floodnet.specs.laws.Places.{spot-of}
 use Rattle.floodnet.specs.laws.LinksLaws.{between}

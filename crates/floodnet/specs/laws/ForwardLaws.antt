@@ -98,7 +98,7 @@ receivers-pending {n} s b p m a q =
 -- ---- m becomes pending at each peer of r
 
 -- It is pending there, and what was pending still is.
-pub given-pending : (n : Network) (r : ℕ) (m : Message) → length (n .pending) ≡ 32 → r < 2 ^ 32 → (q : Peer) (k : Message)
+given-pending : (n : Network) (r : ℕ) (m : Message) → length (n .pending) ≡ 32 → r < 2 ^ 32 → (q : Peer) (k : Message)
     → pending (given n r m) q k ≡ pending n q k || (has r (q .0) && eqb (k .0) (m .0))
 unfolding given
 given-pending n r m e h q k = has-edit-with r (m .0) (n .pending) (q .0) (k .0) λ o. has-out 32 r (q .0) h (rw e at o)

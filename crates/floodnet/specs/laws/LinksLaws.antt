@@ -1,4 +1,5 @@
--- Laws of specs/LinksLaws.antt. Assumes nothing.
+-- "Both sides record" and "both sides forget" (specs/Links.antt) in observations: what each changes, and that a sound network stays sound. Nothing
+-- is asked of whether the links were there before. Assumes nothing.
 use mathlib.Core.Path.{_≡_, refl, sym, ap, ap₂, _∙_}
 use mathlib.Core.Logic.{_⊎_, inl, inr, ⊎-elim}
 use mathlib.Core.Bool.{Bool, true, false, not, _&&_, _||_, and-true, and-false, and-comm, or-false, or-comm, or-assoc, or-self, and-assoc, and-or-distrib-right}
@@ -33,24 +34,6 @@ between p who a c = (eqb (a .0) (p .0) && has who (c .0)) || (eqb (c .0) (p .0) 
 
 -- ---- the observations, one law each
 
--- What neither changes: who is present, what is published and subscribed to, the messages pending and seen.
-pub record SameButLinks (n m : Network) : Type 0 where
-  pub present : m .present ≡ n .present
-  pub pubs : m .pubs ≡ n .pubs
-  pub subs : m .subs ≡ n .subs
-  pub pending : m .pending ≡ n .pending
-  pub seen : m .seen ≡ n .seen
-
--- Recording changes nothing else.
-pub up-rest : (n : Network) (p : Peer) (who : ℕ) → SameButLinks n (linkUp n p who)
-unfolding linkUp
-up-rest n p who = record { present = refl; pubs = refl; subs = refl; pending = refl; seen = refl }
-
--- Nor does forgetting.
-pub down-rest : (n : Network) (p : Peer) (who : ℕ) → SameButLinks n (linkDown n p who)
-unfolding linkDown
-down-rest n p who = record { present = refl; pubs = refl; subs = refl; pending = refl; seen = refl }
-
 -- The links that were there, and those between p and `who`.
 pub linked-up : {n : Network} → Shaped n → (p : Peer) (who : ℕ) (a c : Peer) → a .0 < 32 → linked (linkUp n p who) a c ≡ linked n a c || between p who a c
 unfolding linkUp
@@ -81,7 +64,7 @@ either-side false x y u true s true h = let f : s ≡ true = sym (and-true s) �
 either-side false x y u true s false h = let f : s ≡ false = sym (and-true s) ∙ h in rw (f, and-false u, and-false y, and-false x, and-false)
 
 -- What was known, and of the two sides of each new link each for the other's topics.
-pub knows-up : {n : Network} → Shaped n → (p : Peer) (who : ℕ) (a : Peer) (t : Topic) (c : Peer) → who < 2 ^ 32 → a .0 < 32 → t .0 < 32
+knows-up : {n : Network} → Shaped n → (p : Peer) (who : ℕ) (a : Peer) (t : Topic) (c : Peer) → who < 2 ^ 32 → a .0 < 32 → t .0 < 32
     → knows (linkUp n p who) a t c ≡ knows n a t c || (between p who a c && subscribed n c t)
 unfolding linkUp
 knows-up {n} s p who a t c hw ha ht =
@@ -98,7 +81,7 @@ knows-up {n} s p who a t c hw ha ht =
     same = sym (and-eqb (λ (x : ℕ). has (getD (n .subs) x 0) (t .0)) (p .0) (c .0))
 
 -- What was known, but for the two sides of each link that is forgotten.
-pub knows-down : {n : Network} → Shaped n → (p : Peer) (who : ℕ) (a : Peer) (t : Topic) (c : Peer) → a .0 < 32 → t .0 < 32
+knows-down : {n : Network} → Shaped n → (p : Peer) (who : ℕ) (a : Peer) (t : Topic) (c : Peer) → a .0 < 32 → t .0 < 32
     → knows (linkDown n p who) a t c ≡ knows n a t c && not (between p who a c)
 unfolding linkDown
 knows-down {n} s p who a t c ha ht =

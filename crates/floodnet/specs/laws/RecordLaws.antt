@@ -64,7 +64,7 @@ unfolding cleared
 known-cleared {n} s p q t hq ht = edit-spot (λ x y w. when (eqb x (p .0)) empties w) (n .known) q t (s .known) hq ht
 
 -- p knows nobody.
-pub knows-cleared : {n : Network} → Shaped n → (p q : Peer) (t : Topic) (c : Peer) → q .0 < 32 → t .0 < 32 → knows (cleared n p) q t c ≡ not (eqb (q .0) (p .0)) && knows n q t c
+knows-cleared : {n : Network} → Shaped n → (p q : Peer) (t : Topic) (c : Peer) → q .0 < 32 → t .0 < 32 → knows (cleared n p) q t c ≡ not (eqb (q .0) (p .0)) && knows n q t c
 knows-cleared {n} s p q t c hq ht = ap (λ (w : ℕ). has w (c .0)) (known-cleared s p q t hq ht) ∙ has-empties (eqb (q .0) (p .0)) (knownOf n q t) (c .0)
 
 -- The shape stays.

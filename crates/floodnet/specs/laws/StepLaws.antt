@@ -1,7 +1,7 @@
 -- Laws of a step: "refused exactly when its conditions fail" opened up, "Soundness holds after every accepted event", and what an
 -- event does to the pairs pending. Assumes nothing.
 use mathlib.Core.Path.{_≡_, refl, sym, ap, _∙_}
-use mathlib.Core.Bool.{Bool, true, false, not}
+use mathlib.Core.Bool.{true, false, not}
 use Prim.Native.Nat.{ℕ, zero, suc, _+_}
 use native.Mathlib.Omega.{arith}
 use lib.Dec.{eqb}

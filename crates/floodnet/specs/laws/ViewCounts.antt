@@ -11,7 +11,7 @@ use Rattle.sets.specs.laws.Sums.{sum-same, sum-drop}
 use Rattle.sets.specs.laws.Sizes.{size-with}
 use Rattle.sets.specs.laws.Counts.{size-sum}
 use Rattle.flooding.specs.Counts.{pendingPairs, delivers}
-use Rattle.flooding.proofs.Tally.{forward-tally}
+use Rattle.flooding.specs.laws.Tally.{forward-tally}
 use Rattle.network.specs.declared.Peer.{Peer}
 use Rattle.network.specs.declared.Message.{Message}
 use Rattle.network.specs.declared.Network.{Network}
@@ -25,12 +25,12 @@ use Rattle.floodnet.specs.View.{view, fwd, pairs}
 use Rattle.floodnet.specs.laws.ViewLaws.{view-sound, fwd-view, fwd-sound}
 
 -- The pending pairs are those that `flooding` counts.
-pub view-pairs : {n : Network} (b : Table) → Shaped n → pendingPairs 32 64 (view b n) ≡ pairs n
+view-pairs : {n : Network} (b : Table) → Shaped n → pendingPairs 32 64 (view b n) ≡ pairs n
 unfolding pendingPairs view pairs
 view-pairs {n} b s = sum-same 32 _ _ λ p l. sym (size-sum 64 (pendingOf n (peer p)) (s .pending-fit p))
 
 -- So are the deliveries of a forward of a pending message.
-pub view-delivers : {n : Network} (b : Table) → Shaped n → (p : Peer) (m : Message) → pending n p m ≡ true → delivers 32 (view b n) (p .0) (m .0) ≡ deliveries n b p m
+view-delivers : {n : Network} (b : Table) → Shaped n → (p : Peer) (m : Message) → pending n p m ≡ true → delivers 32 (view b n) (p .0) (m .0) ≡ deliveries n b p m
 unfolding delivers view
 view-delivers b s p m a = sym (deliveries-sum s b p m a)
 

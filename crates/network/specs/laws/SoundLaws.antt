@@ -7,14 +7,14 @@ use Prim.Native.Nat.{ℕ, _≤_, _<_}
 use native.Mathlib.Nat.{lt-of-not-le}
 use lib.ListN.{length, getD, List·getD-eq-default}
 use Rattle.sets.specs.Set.{has}
-use Rattle.sets.specs.laws.Bools.{clash, and-yes, not-false}
+use Rattle.sets.specs.laws.Bools.{clash, and-yes}
 use Rattle.sets.specs.laws.Members.{has-none}
 use Rattle.sets.specs.laws.Bounds.{has-in}
 use Rattle.network.specs.declared.Peer.{Peer}
 use Rattle.network.specs.declared.Topic.{Topic}
 use Rattle.network.specs.declared.Message.{Message}
 use Rattle.network.specs.declared.Network.{Network}
-use Rattle.network.specs.Network.{present, publishes, subscribed, linked, pending, saw, knows, Shaped}
+use Rattle.network.specs.Network.{present, subscribed, linked, pending, saw, knows, Shaped}
 use Rattle.network.specs.Sound.{Empty, Sound}
 
 -- ---- in range
@@ -26,14 +26,6 @@ within l k i j e h = lt-of-not-le λ (o : k ≤ i). clash h (ap (λ (w : ℕ). h
 -- a present peer is one of the 32
 pub present-peer : {n : Network} → Shaped n → (p : Peer) → present n p ≡ true → p .0 < 32
 present-peer s p h = has-in 32 _ _ (s .present) h
-
--- who publishes
-pub publishes-peer : {n : Network} → Shaped n → (p : Peer) (t : Topic) → publishes n p t ≡ true → p .0 < 32
-publishes-peer {n} s p t h = within (n .pubs) 32 (p .0) (t .0) (s .pubs) h
-
--- who subscribes
-pub subscribed-peer : {n : Network} → Shaped n → (p : Peer) (t : Topic) → subscribed n p t ≡ true → p .0 < 32
-subscribed-peer {n} s p t h = within (n .subs) 32 (p .0) (t .0) (s .subs) h
 
 -- who lists whom
 pub linked-peer : {n : Network} → Shaped n → (p q : Peer) → linked n p q ≡ true → p .0 < 32
@@ -66,16 +58,6 @@ has-present {n} s p w i b e h = go (present n p) λ a. clash h (ap (λ (x : ℕ)
     go true f = refl
     go false f = f refl
 
--- "each neighbour q is present and lists p": so whoever lists somebody is present
-pub linked-present : {n : Network} → Sound n → (p q : Peer) → linked n p q ≡ true → present n p ≡ true
-linked-present s p q h = s .near q p (s .back p q h)
-
-pub publishes-present : {n : Network} → Sound n → (p : Peer) (t : Topic) → publishes n p t ≡ true → present n p ≡ true
-publishes-present s p t h = has-present s p _ _ (publishes-peer (s .shaped) p t h) (λ e. e .pubs) h
-
-pub subscribed-present : {n : Network} → Sound n → (p : Peer) (t : Topic) → subscribed n p t ≡ true → present n p ≡ true
-subscribed-present s p t h = has-present s p _ _ (subscribed-peer (s .shaped) p t h) (λ e. e .subs) h
-
 pub pending-present : {n : Network} → Sound n → (p : Peer) (m : Message) → pending n p m ≡ true → present n p ≡ true
 pending-present s p m h = has-present s p _ _ (pending-peer (s .shaped) p m h) (λ e. e .pending) h
 
@@ -92,7 +74,3 @@ knows-linked s p t q bp bt h = knows-both s p t q bp bt h .0
 
 pub knows-present : {n : Network} → Sound n → (p : Peer) (t : Topic) (q : Peer) → p .0 < 32 → t .0 < 32 → knows n p t q ≡ true → present n q ≡ true
 knows-present s p t q bp bt h = s .near p q (knows-linked s p t q bp bt h)
-
--- no peer knows itself
-pub knows-self : {n : Network} → Sound n → (p : Peer) (t : Topic) → p .0 < 32 → t .0 < 32 → knows n p t p ≡ false
-knows-self s p t bp bt = not-false λ h. clash (knows-linked s p t p bp bt h) (s .own p)

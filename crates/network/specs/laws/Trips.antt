@@ -10,7 +10,7 @@ use lib.ListN.{length, getD, replicate, length-replicate}
 use Rattle.sets.specs.Set.{has, digit}
 use Rattle.sets.specs.laws.Members.{has-none}
 use Rattle.sets.specs.laws.Build.{setOf-same, setOf-has}
-use Rattle.lists.specs.laws.Tab.{length-tab, getD-tab, is-tab, tab-below}
+use Rattle.lists.specs.laws.Tab.{length-tab, getD-tab, is-tab}
 use Rattle.endian.specs.Le.{le}
 use Rattle.endian.specs.laws.Le.{Bytes, le-4, le-8}
 use Rattle.network.specs.declared.Network.{Network}
@@ -178,10 +178,6 @@ module _ (n : Network) (s : Shaped n) where
 pub bytes-long : (n : Network) → length (bytesOf n) ≡ 5120
 unfolding bytesOf
 bytes-long n = length-tab 5120 (byteOf n)
-
-pub bytes-fit : (n : Network) → Bytes (bytesOf n)
-unfolding bytesOf byteOf
-bytes-fit n = tab-below 5120 (byteOf n) 256 (omega arith) λ i l. omega arith
 
 -- "and the reverse"
 pub write-read : {n : Network} → Sound n → openOf (bytesOf n) ≡ opened 0 0 n

@@ -27,7 +27,7 @@ use Rattle.broadcastnet.specs.laws.ImageNet.{image-written, imageNet-sound}
 use Rattle.broadcastnet.specs.Page.{Row}
 use Rattle.broadcastnet.specs.Unchanged.{Unchanged}
 use Rattle.broadcastnet.specs.laws.Unchanged.{unchanged}
-use Rattle.broadcastnet.proofs.Refines.{image-step, one-step}
+use Rattle.broadcastnet.specs.laws.Refines.{image-step, one-step}
 use Rattle.engine.specs.declared.Tally.{Tally}
 use Rattle.engine.specs.declared.Answer.{Answer}
 use Rattle.engine.specs.Start.{beginOf}

@@ -22,7 +22,7 @@ use Rattle.events.specs.Kind.{kindOf}
 use Rattle.floodnet.specs.Step.{refusal, effect, ifAccepted, after, deliveriesOf, turned, turnedOf}
 use Rattle.broadcastnet.specs.Commit.{image}
 use Rattle.broadcastnet.specs.Page.{Accepted, effects, images, Path}
-use Rattle.broadcastnet.proofs.Refines.{images-follow}
+use Rattle.broadcastnet.specs.laws.Refines.{images-follow}
 use Rattle.engine.specs.declared.Tally.{Tally}
 use Rattle.engine.specs.Run.{zeroTally, turnOf, Final, stopsAt, runFrom, runAll, ReadFits}
 use Rattle.engine.specs.RunLaws.{outcomeAt, tallyAfter}

@@ -12,11 +12,11 @@ use Rattle.flooding.specs.Machine.{Pair, run, due, round, rounds, Draine
 use Rattle.flooding.specs.laws.Machine.{Machine}
 use Rattle.flooding.specs.Page.{Drains, Finishes}
 use Rattle.flooding.specs.laws.Loop.{ways, run-append, drain-stop, drain-round, drain-cut}
-use Rattle.flooding.proofs.Run.{accepts-append, accepts-take, mem}
-use Rattle.flooding.proofs.Round.{todo-mem}
-use Rattle.flooding.proofs.Count.{unseen-bound}
-use Rattle.flooding.proofs.Course.{quiet-todo}
-use Rattle.flooding.proofs.Floods.{due-accepts, round-ok, floods}
+use Rattle.flooding.specs.laws.Run.{accepts-append, accepts-take, mem}
+use Rattle.flooding.specs.laws.Round.{todo-mem}
+use Rattle.flooding.specs.laws.Count.{unseen-bound}
+use Rattle.flooding.specs.laws.Course.{quiet-todo}
+use Rattle.flooding.specs.laws.Floods.{due-accepts, round-ok, floods}
 
 -- Nothing is below 0.
 none : {j : ℕ} → j < 0 → ⊥

@@ -14,9 +14,9 @@ use Rattle.flooding.specs.Counts.{unseenPairs}
 use Rattle.flooding.specs.Machine.{Pair, run, due, round, rounds, Drained, drain}
 use Rattle.flooding.specs.laws.Machine.{Machine}
 use Rattle.flooding.specs.Page.{Drains}
-use Rattle.flooding.proofs.Run.{accepts-take}
-use Rattle.flooding.proofs.Floods.{due-accepts, rounds-ok, floods}
-use Rattle.flooding.proofs.Drain.{drain-law}
+use Rattle.flooding.specs.laws.Run.{accepts-take}
+use Rattle.flooding.specs.laws.Floods.{due-accepts, rounds-ok, floods}
+use Rattle.flooding.specs.laws.Drain.{drain-law}
 
 -- Two numbers of which neither is below the other.
 neither : (a b : ℕ) → (a < b → ⊥) → (b < a → ⊥) → a ≡ b

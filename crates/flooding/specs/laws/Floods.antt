@@ -11,14 +11,14 @@ use Rattle.flooding.specs.Counts.{unseenPairs}
 use Rattle.flooding.specs.Machine.{Pair, pair, run, Accepts, todo, due, round, rounds}
 use Rattle.flooding.specs.laws.Machine.{itself, Machine}
 use Rattle.flooding.specs.Page.{Floods}
-use Rattle.flooding.proofs.Run as runs
-use Rattle.flooding.proofs.Run.{after, Accepted}
-use Rattle.flooding.proofs.Round as rnd
-use Rattle.flooding.proofs.Round.{netRounds}
-use Rattle.flooding.proofs.Levels as levels
-use Rattle.flooding.proofs.Count as count
-use Rattle.flooding.proofs.Course as course
-use Rattle.flooding.proofs.Tally as tally
+use Rattle.flooding.specs.laws.Run as runs
+use Rattle.flooding.specs.laws.Run.{after, Accepted}
+use Rattle.flooding.specs.laws.Round as rnd
+use Rattle.flooding.specs.laws.Round.{netRounds}
+use Rattle.flooding.specs.laws.Levels as levels
+use Rattle.flooding.specs.laws.Count as count
+use Rattle.flooding.specs.laws.Course as course
+use Rattle.flooding.specs.laws.Tally as tally
 
 -- A network is a machine.
 pub net-machine : (N M : ℕ) → Machine itself forward N M (Sound N M)

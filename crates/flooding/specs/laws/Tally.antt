@@ -15,8 +15,8 @@ use Rattle.sets.specs.laws.Sums.{sum-same, sum-change, sum-add, sum-drop, sum-z
 use Rattle.flooding.specs.Network.{Net, Sound, link, forward}
 use Rattle.flooding.specs.Counts.{pendingPairs, gets, delivers, deliveries}
 use Rattle.flooding.specs.Machine.{Pair, pair, run}
-use Rattle.flooding.proofs.Run.{after, Accepted}
-use Rattle.flooding.proofs.Round.{sound-forward}
+use Rattle.flooding.specs.laws.Run.{after, Accepted}
+use Rattle.flooding.specs.laws.Round.{sound-forward}
 
 -- w: pending; h: seen; k: linked.
 gets-alg : (w h k : Bool) → digit (w || (not h && k)) + 0 ≡ digit w + digit (k && (not w && not h))

@@ -11,10 +11,10 @@ use Rattle.flooding.specs.Network.{Net, Sound, at, Chain, Shortest}
 use Rattle.flooding.specs.Machine.{Pair, pair, due, rounds, Drained}
 use Rattle.flooding.specs.laws.Machine.{Machine}
 use Rattle.flooding.specs.Page.{Drains, Within}
-use Rattle.flooding.proofs.Run.{accepts-take, mem, after-seen, chain-unseen}
-use Rattle.flooding.proofs.Round.{todo-mem}
-use Rattle.flooding.proofs.Levels.{level}
-use Rattle.flooding.proofs.Floods.{run-view, due-accepts, rounds-ok, rounds-view}
+use Rattle.flooding.specs.laws.Run.{accepts-take, mem, after-seen, chain-unseen}
+use Rattle.flooding.specs.laws.Round.{todo-mem}
+use Rattle.flooding.specs.laws.Levels.{level}
+use Rattle.flooding.specs.laws.Floods.{run-view, due-accepts, rounds-ok, rounds-view}
 
 -- What a front of a list has, the list has.
 mem-take : (n : ℕ) (l : List Pair) (q k : ℕ) → mem (take n l) q k ≡ true → mem l q k ≡ true

@@ -17,8 +17,8 @@ use Rattle.broadcastnet.specs.Broadcast.{Broadcastnet, Step, rel-skip, r
 use Rattle.broadcastnet.specs.Commit.{somewhere, whoSaw, image}
 use Rattle.broadcastnet.specs.laws.CommitLaws.{image-quiet}
 use Rattle.broadcastnet.specs.Page.{Row, Accepted, effects, images, Path, Related, Refines}
-use Rattle.broadcastnet.proofs.Messages.{image-produced, forward-row}
-use Rattle.broadcastnet.proofs.Members.{subscribe-row, unsubscribe-row, leave-row, join-row}
+use Rattle.broadcastnet.specs.laws.Messages.{image-produced, forward-row}
+use Rattle.broadcastnet.specs.laws.Members.{subscribe-row, unsubscribe-row, leave-row, join-row}
 
 -- What the table says of an event is one step.
 row-step : (b : Table) (n o : Network) (e : Event) → Row n o e → Step b (image n) (image o)

@@ -7,8 +7,8 @@ use native.Mathlib.Omega.{arith}
 use Rattle.sets.specs.laws.Bools.{either, clash, not-false, or-yes, or-right, below-suc}
 use Rattle.flooding.specs.Network.{Net, Sound, link, Chain, holds, link-to, Shortest}
 use Rattle.flooding.specs.Machine.{rounds}
-use Rattle.flooding.proofs.Run.{chain-unseen}
-use Rattle.flooding.proofs.Round.{netRound, netRounds, sound-rounds, rounds-link, round-seen, round-pending-why, round-pending-yes}
+use Rattle.flooding.specs.laws.Run.{chain-unseen}
+use Rattle.flooding.specs.laws.Round.{netRound, netRounds, sound-rounds, rounds-link, round-seen, round-pending-why, round-pending-yes}
 
 -- The holder of a chain of 0 links; the last link of a longer one.
 pub chain-zero : {s : Net} {m q : ℕ} → Chain s m q zero → s .pending q m ≡ true

@@ -12,7 +12,7 @@ use Rattle.flooding.specs.Network.{Net, Sound, link, at, forward}
 use Rattle.flooding.specs.Machine.{Pair, pair, run, row, todo, round, rounds}
 use Rattle.flooding.specs.laws.Machine.{itself}
 use Rattle.flooding.specs.laws.Loop.{run-append}
-use Rattle.flooding.proofs.Run.{after, Accepted, accepts-append, mem, feeds, feeds-yes, feeds-why, after-seen, after-pending, after-known, after-topic}
+use Rattle.flooding.specs.laws.Run.{after, Accepted, accepts-append, mem, feeds, feeds-yes, feeds-why, after-seen, after-pending, after-known, after-topic}
 
 -- A network's own rounds.
 abbrev pub netRound : ℕ → ℕ → Net → Net

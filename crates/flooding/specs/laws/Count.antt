@@ -13,8 +13,8 @@ use Rattle.sets.specs.laws.Sums.{sum-same, sum-drop, sum-lt, sum-bound, sum-mem
 use Rattle.flooding.specs.Network.{Net, Sound, at, forward, Quiet}
 use Rattle.flooding.specs.Counts.{unseenPairs}
 use Rattle.flooding.specs.Machine.{Pair, pair, run, todo, round, rounds}
-use Rattle.flooding.proofs.Run.{after, Accepted, after-present}
-use Rattle.flooding.proofs.Round.{netRound, netRounds, sound-forward, sound-rounds, round-seen, round-pending-why}
+use Rattle.flooding.specs.laws.Run.{after, Accepted, after-present}
+use Rattle.flooding.specs.laws.Round.{netRound, netRounds, sound-forward, sound-rounds, round-seen, round-pending-why}
 
 -- The desks that have not seen m.
 abbrev pub unseenOf : ℕ → ℕ → Net → ℕ

@@ -12,10 +12,10 @@ use Rattle.flooding.specs.Counts.{unseenPairs}
 use Rattle.flooding.specs.Machine.{Pair, run, row, todo, round, rounds}
 use Rattle.flooding.specs.laws.Machine.{itself}
 use Rattle.flooding.specs.laws.Loop.{run-append}
-use Rattle.flooding.proofs.Run.{after, Accepted, accepts-append, same-end, chain-unseen}
-use Rattle.flooding.proofs.Round.{netRounds, todo-accepted, sound-after, sound-rounds, round-seen}
-use Rattle.flooding.proofs.Levels.{level}
-use Rattle.flooding.proofs.Count.{run-counts, rounds-quiet, rounds-lower, unseenOf-pos, unseenOf-bound}
+use Rattle.flooding.specs.laws.Run.{after, Accepted, accepts-append, same-end, chain-unseen}
+use Rattle.flooding.specs.laws.Round.{netRounds, todo-accepted, sound-after, sound-rounds, round-seen}
+use Rattle.flooding.specs.laws.Levels.{level}
+use Rattle.flooding.specs.laws.Count.{run-counts, rounds-quiet, rounds-lower, unseenOf-pos, unseenOf-bound}
 
 module _ (N M : ℕ) where
   -- The forwards of the first k rounds, in their order.

@@ -1,18 +1,18 @@
 -- The accident that this engine is for (document 00): "a client gave a departed desk's number to a new one. Neighbours still listed the old
 -- desk's subscriptions, so the first run on the new desk took in revisions meant for its predecessor." Here: once a desk has left, no
 -- record mentions it (AfterLeave); and a desk that joins under any free number has the links and subscriptions that its own join names, on
--- both sides, and no others (AfterJoin), whoever had the number before. specs/laws/AccidentLaws.antt proves it of every sound network:
--- `after-leave`, `after-join` and, of a number that is given out again, `number-given-again`. Assumes nothing.
+-- both sides, and no others (AfterJoin), whoever had the number before. The page is the last record. Assumes nothing.
 use mathlib.Core.Path.{_≡_}
 use mathlib.Core.Bool.{true, false, _&&_}
-use Prim.Native.Nat.{ℕ, _<_}
-use Rattle.sets.specs.Set.{has}
+use Prim.Native.Nat.{ℕ, _^_, _<_}
+use Rattle.sets.specs.Set.{has, minus}
 use Rattle.network.specs.declared.Peer.{Peer}
 use Rattle.network.specs.declared.Topic.{Topic}
 use Rattle.network.specs.declared.Message.{Message}
 use Rattle.network.specs.declared.Network.{Network}
 use Rattle.network.specs.Network.{pendingOf, seenOf, present, publishes, subscribed, linked, pending, saw, knows}
 use Rattle.network.specs.Sound.{Sound, Empty}
+use Rattle.floodnet.specs.Links.{left, joined}
 
 -- From n to m: what does not concern p is as it was.
 pub record Apart (p : Peer) (n m : Network) : Type 0 where
@@ -65,3 +65,14 @@ pub record AfterJoin (n m : Network) (p : Peer) (subs pubs who : ℕ) : Type 0 w
   pub nothing-seen : seenOf m p ≡ 0
   -- Nothing else has changed.
   pub apart : Apart p n m
+
+-- THE PAGE, of a network n that is sound (`accident`, specs/laws/AccidentLaws.antt).
+pub record Accident (n : Network) : Type 0 where
+  -- A desk leaves.
+  pub after-leave : (p : Peer) → p .0 < 32 → AfterLeave n (left n p) p
+  -- A desk joins under a free number, with neighbours that are present and not itself.
+  pub after-join : (p : Peer) (subs pubs who : ℕ) → p .0 < 32 → present n p ≡ false → has who (p .0) ≡ false → minus who (n .present) ≡ 0
+      → subs < 2 ^ 32 → pubs < 2 ^ 32 → who < 2 ^ 32 → AfterJoin n (joined n p subs pubs who) p subs pubs who
+  -- The minutes' own case: p leaves, and its number is given out again. Nothing of the old desk is with the new one.
+  pub number-given-again : (p : Peer) (subs pubs who : ℕ) → p .0 < 32 → has who (p .0) ≡ false → minus who (left n p .present) ≡ 0
+      → subs < 2 ^ 32 → pubs < 2 ^ 32 → who < 2 ^ 32 → AfterJoin (left n p) (joined (left n p) p subs pubs who) p subs pubs who

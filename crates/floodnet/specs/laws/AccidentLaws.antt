@@ -1,4 +1,4 @@
--- The page of the accident (specs/Accident.antt), proved: of a leave, of a join, and of a number that is given out again. Assumes nothing.
+-- The page of the accident (specs/Accident.antt), proved of every sound network. Assumes nothing.
 use mathlib.Core.Path.{_≡_, refl, sym, ap, ap₂, _∙_}
 use mathlib.Core.Bool.{Bool, true, false, not, cond, _&&_, _||_, and-true, and-false, or-false}
 use mathlib.Core.List.{List}
@@ -20,12 +20,12 @@ use Rattle.floodnet.specs.Links.{left, joined}
 use Rattle.floodnet.specs.laws.Places.{spot-of}
 use Rattle.floodnet.specs.laws.LinksLaws.{between}
 use Rattle.floodnet.specs.laws.LeaveJoin.{left-sound, left-empty, present-left, publishes-left, subscribed-left, pending-left, saw-left, linked-left, knows-left, joined-sound, present-joined, publishes-joined, subscribed-joined, pending-joined, seen-joined, linked-joined, knows-joined}
-use Rattle.floodnet.specs.Accident.{AfterLeave, AfterJoin}
+use Rattle.floodnet.specs.Accident.{AfterLeave, AfterJoin, Accident}
 
 -- ---- after a leave
 
 -- A leave of p from any sound network.
-pub after-leave : {n : Network} → Sound n → (p : Peer) → p .0 < 32 → AfterLeave n (left n p) p
+after-leave : {n : Network} → Sound n → (p : Peer) → p .0 < 32 → AfterLeave n (left n p) p
 after-leave {n} s p hp =
     record {
       sound = left-sound s p;
@@ -78,7 +78,7 @@ elsewhere : (p : Peer) (who : ℕ) (q c : Peer) → (q .0 ≡ p .0 → ⊥) → 
 elsewhere p who q c d e = rw (ne-eqb d, ne-eqb e)
 
 -- A join of p, with others that are present, in any sound network that p is absent from.
-pub after-join : {n : Network} → Sound n → (p : Peer) (subs pubs who : ℕ) → present n p ≡ false → p .0 < 32 → has who (p .0) ≡ false → minus who (n .present) ≡ 0
+after-join : {n : Network} → Sound n → (p : Peer) (subs pubs who : ℕ) → present n p ≡ false → p .0 < 32 → has who (p .0) ≡ false → minus who (n .present) ≡ 0
     → subs < 2 ^ 32 → pubs < 2 ^ 32 → who < 2 ^ 32 → AfterJoin n (joined n p subs pubs who) p subs pubs who
 after-join {n} s p subs pubs who gone hp self within hs hb hw =
     record {
@@ -114,7 +114,11 @@ after-join {n} s p subs pubs who gone hp self within hs hb hw =
     named t q true e = rw (eqb-true (q .0) (p .0) e, self)
     named t q false e = refl
 
--- The minutes' own case: p leaves, and its number is given out again. Nothing of the old desk is with the new one.
-pub number-given-again : {n : Network} → Sound n → (p : Peer) (subs pubs who : ℕ) → p .0 < 32 → has who (p .0) ≡ false → minus who (left n p .present) ≡ 0
-    → subs < 2 ^ 32 → pubs < 2 ^ 32 → who < 2 ^ 32 → AfterJoin (left n p) (joined (left n p) p subs pubs who) p subs pubs who
-number-given-again s p subs pubs who hp = after-join (left-sound s p) p subs pubs who (after-leave s p hp .absent) hp
+-- THE PAGE IS TRUE of every sound network.
+pub accident : {n : Network} → Sound n → Accident n
+accident s =
+    record {
+      after-leave = after-leave s;
+      after-join = λ p subs pubs who hp gone. after-join s p subs pubs who gone hp;
+      number-given-again = λ p subs pubs who hp. after-join (left-sound s p) p subs pubs who (after-leave s p hp .absent) hp;
+    }

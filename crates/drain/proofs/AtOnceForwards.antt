@@ -53,7 +53,7 @@ has-put l p v q j b = go (ℕ-discrete q p)
     go (no e) = rw (ne-eqb e) (ap (λ (w : ℕ). has w j) (getD-set-other l p q v 0 e))
 
 -- The set at p without w.
-has-less : (l : List ℕ) (p w q j : ℕ) → q < length l → has (getD (set l p (minus (getD l p 0) w)) q 0) j ≡ has (getD l q 0) j && not (eqb q p && has w j)
+pub has-less : (l : List ℕ) (p w q j : ℕ) → q < length l → has (getD (set l p (minus (getD l p 0) w)) q 0) j ≡ has (getD l q 0) j && not (eqb q p && has w j)
 has-less l p w q j b = has-put l p (minus (getD l p 0) w) q j b ∙ go (ℕ-discrete q p)
   where
     go : Dec (q ≡ p) → cond (eqb q p) (has (minus (getD l p 0) w) j) (has (getD l q 0) j) ≡ has (getD l q 0) j && not (eqb q p && has w j)

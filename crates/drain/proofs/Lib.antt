@@ -1,2 +1,4 @@
 pub mod AtOnce
 pub mod AtOnceForwards
+pub mod Filing
+pub mod Within

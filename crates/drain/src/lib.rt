@@ -3,7 +3,8 @@
 // Read specs/Reach.antt: the client's page, demand 3 sentence by sentence over a sound network and its table. specs/Drain.antt
 // says what a drain answers; specs/laws/ReachLaws.antt proves the page, specs/laws/ReachWords.antt has its words in flooding's. The functions here make the drain on the arrays that a caller
 // lends; specs/Lent.antt has the words of their contracts, specs/Pairs.antt and specs/laws/Turns.antt what their loops keep. specs/AtOnce.antt
-// and proofs/AtOnceForwards.antt: a peer's messages forwarded at once are its forwards one by one.
+// and proofs/AtOnceForwards.antt: a peer's messages forwarded at once are its forwards one by one. A drain looks only at the messages that are
+// pending when it begins and at their topics: it files them once (proofs/Filing.antt), and no other message becomes pending (proofs/Within.antt).
 ghost use mathlib.Core.Path.{_≡_};
 ghost use Prim.Native.Nat.{ℕ, _^_, _<_, _≤_};
 ghost use lib.Dec.{eqb};
@@ -11,7 +12,7 @@ ghost use lib.ListN.{length, getD, take};
 ghost use Rattle.sets.specs.Set.{has, count};
 ghost use Rattle.lists.specs.Edit.{edit};
 ghost use Rattle.drain.specs.Pairs.{pairsOf, listOf, waitingOf, emptyWords};
-ghost use Rattle.drain.specs.AtOnce.{ByTopic, gives, AtOnce};
+ghost use Rattle.drain.specs.AtOnce.{anywhereOf, topicsOf, ByTopic, Apart, AllFiled, EachFiled, gives, AtOnce};
 ghost use Rattle.drain.specs.Lent.{Leads, DrainsTo};
 use network::Message;
 use network::Peer;
@@ -46,15 +47,44 @@ fn waiting(pending: &[u64; 32]) -> u32
     total
 }
 
-// The messages of each topic.
-fn by_topic(topics: &[u8; 64]) -> [u64; 32]
+// Every message that is pending somewhere.
+fn anywhere(pending: &[u64; 32]) -> u64
+    ensures { λ r. ⌜ r ≡ anywhereOf (now (pending .entry)) 32 ⌝ }
+{
+    let mut all: u64 = 0;
+    for p in 0..32 {
+        all = sets::union64(all, pending[p]);
+    }
+    all
+}
+
+// The topics of the messages of s.
+fn topics_of(topics: &[u8; 64], s: u64) -> u32
     requires { ⌜ ((i : ℕ) → getD (now topics) i 0 < 32) ⌝ }
-    ensures { λ r. ⌜ ByTopic (now (topics .entry)) r ⌝ }
+    ensures { λ r. ⌜ r ≡ topicsOf (now (topics .entry)) s ⌝ }
+{
+    let mut r: u32 = 0;
+    let mut left = s;
+    while left != 0 {
+        let m = sets::lowest64(left) as usize;
+        r = sets::with32(r, topics[m] as u32);
+        left = sets::rest64(left);
+    }
+    r
+}
+
+// The messages of s, those of each topic in a word.
+fn by_topic(topics: &[u8; 64], s: u64) -> [u64; 32]
+    requires { ⌜ ((i : ℕ) → getD (now topics) i 0 < 32) ⌝ }
+    ensures { λ r. ⌜ ByTopic (now (topics .entry)) s r ⌝ }
 {
     let mut r = [0u64; 32];
-    for m in 0..64 {
+    let mut left = s;
+    while left != 0 {
+        let m = sets::lowest64(left);
         let t = topics[m as usize] as usize;
         r[t] = sets::with64(r[t], m);
+        left = sets::rest64(left);
     }
     r
 }
@@ -72,19 +102,20 @@ fn give_set(pending: &mut [u64; 32], seen: &[u64; 32], s: u32, w: u64)
     }
 }
 
-// Forwards all messages of `todo` at p, at once: those of one topic together.
+// Forwards all messages of `todo` at p, at once: those of one topic together, of the topics `used` alone.
 fn forward_set(
     pending: &mut [u64; 32],
     seen: &mut [u64; 32],
     known: &[u32; 1024],
     topics: &[u8; 64],
     words: &[u64; 32],
+    used: u32,
     p: Peer,
     todo: u64,
 )
     requires { ⌜ p .0 < 32 ⌝ }
-    requires { ⌜ ((i : ℕ) → getD (now topics) i 0 < 32) ⌝ }
-    requires { ⌜ ByTopic (now topics) (now words) ⌝ }
+    requires { ⌜ Apart (now topics) (now words) ⌝ }
+    requires { ⌜ AllFiled (now topics) (now words) used todo ⌝ }
     ensures { λ z.
         ⌜ AtOnce (now (known .entry)) (now (topics .entry)) (now (pending .entry)) (now (seen .entry)) (p .0) todo (now (pending .exit))
         (now (seen .exit)) ⌝ }
@@ -92,11 +123,14 @@ fn forward_set(
     let i = p.0 as usize;
     pending[i] = sets::minus64(pending[i], todo);
     seen[i] = sets::union64(seen[i], todo);
-    for t in 0..32 {
+    let mut left = used;
+    while left != 0 {
+        let t = sets::lowest32(left) as usize;
         let w = sets::meet64(todo, words[t]);
         if w != 0 {
             give_set(&mut *pending, &*seen, known[i * 32 + t], w);
         }
+        left = sets::rest32(left);
     }
 }
 
@@ -108,13 +142,15 @@ fn drain_peer(
     known: &[u32; 1024],
     topics: &[u8; 64],
     words: &[u64; 32],
+    used: u32,
     p: Peer,
     todo: u64,
     left: u32,
 ) -> u32
     requires { ⌜ p .0 < 32 ⌝ }
     requires { ⌜ ((i : ℕ) → getD (now topics) i 0 < 32) ⌝ }
-    requires { ⌜ ByTopic (now topics) (now words) ⌝ }
+    requires { ⌜ Apart (now topics) (now words) ⌝ }
+    requires { ⌜ AllFiled (now topics) (now words) used todo ⌝ }
     ensures { λ r. ⌜ r ≡ length (take left (pairsOf (p .0) todo 64)) ⌝ }
     ensures { λ r.
         ⌜ Leads (now (known .entry)) (now (topics .entry)) (now (pending .entry)) (now (seen .entry)) (take left (pairsOf (p .0) todo 64))
@@ -131,6 +167,7 @@ fn drain_peer(
             &*known,
             &*topics,
             &*words,
+            used,
             p,
             todo,
         );
@@ -157,11 +194,13 @@ fn drain_listed(
     known: &[u32; 1024],
     topics: &[u8; 64],
     words: &[u64; 32],
+    used: u32,
     listed: &[u64; 32],
     left: u32,
 ) -> u32
     requires { ⌜ ((i : ℕ) → getD (now topics) i 0 < 32) ⌝ }
-    requires { ⌜ ByTopic (now topics) (now words) ⌝ }
+    requires { ⌜ Apart (now topics) (now words) ⌝ }
+    requires { ⌜ EachFiled (now topics) (now words) used (now listed) ⌝ }
     ensures { λ r. ⌜ r ≡ length (take left (listOf (now (listed .entry)) 32)) ⌝ }
     ensures { λ r. ⌜ Leads (now (known .entry)) (now (topics .entry)) (now (pending .entry)) (now (seen .entry))
         (take left (listOf (now (listed .entry)) 32)) (now (pending .exit)) (now (seen .exit)) ⌝ }
@@ -176,6 +215,7 @@ fn drain_listed(
             &*known,
             &*topics,
             &*words,
+            used,
             Peer(p),
             todo,
             left - made,
@@ -192,10 +232,12 @@ fn drain_round(
     known: &[u32; 1024],
     topics: &[u8; 64],
     words: &[u64; 32],
+    used: u32,
     left: u32,
 ) -> u32
     requires { ⌜ ((i : ℕ) → getD (now topics) i 0 < 32) ⌝ }
-    requires { ⌜ ByTopic (now topics) (now words) ⌝ }
+    requires { ⌜ Apart (now topics) (now words) ⌝ }
+    requires { ⌜ EachFiled (now topics) (now words) used (now pending) ⌝ }
     ensures { λ r. ⌜ r ≡ length (take left (listOf (now (pending .entry)) 32)) ⌝ }
     ensures { λ r. ⌜ Leads (now (known .entry)) (now (topics .entry)) (now (pending .entry)) (now (seen .entry))
         (take left (listOf (now (pending .entry)) 32)) (now (pending .exit)) (now (seen .exit)) ⌝ }
@@ -207,6 +249,7 @@ fn drain_round(
         &*known,
         &*topics,
         &*words,
+        used,
         &listed,
         left,
     )
@@ -224,7 +267,9 @@ pub fn drain_all(
     ensures { λ r. ⌜ DrainsTo (now (known .entry)) (now (topics .entry)) (now (pending .entry)) (now (seen .entry)) budget (now (pending .exit))
         (now (seen .exit)) r ⌝ }
 {
-    let words = by_topic(&*topics);
+    let all = anywhere(&*pending);
+    let words = by_topic(&*topics, all);
+    let used = topics_of(&*topics, all);
     let mut made: u32 = 0;
     let mut rounds: u32 = 0;
     while made < budget {
@@ -242,6 +287,7 @@ pub fn drain_all(
             &*known,
             &*topics,
             &words,
+            used,
             budget - made,
         );
         made += k;

@@ -14,11 +14,15 @@ use Rattle.drain.proofs.drain_listed.Statement.{statement}
 use Rattle.drain.proofs.drain_listed.Tie as tie
 
 abbrev Inv-loop : tie.InvT-loop
-Inv-loop pending₀ seen₀ known topics words listed left made₀ p₀ pending seen made p =
+Inv-loop pending₀ seen₀ known topics words used listed left made₀ p₀ pending seen made p =
     (p ≤ 32) × ((n : Network) (os : List ℕ) → Peers (fwd (table topics os)) (withMessages n pending₀ seen₀ known) listed left p (withMessages n pending seen known) made)
 
 abbrev μ-loop : tie.MeasureT-loop
-μ-loop pending₀ seen₀ known topics words listed left made₀ p₀ pending seen made p = 32 - p
+μ-loop pending₀ seen₀ known topics words used listed left made₀ p₀ pending seen made p = 32 - p
+
+-- from the place where a peer has its turn: the loop's head
+abbrev head : tie.After-drain-peer-arg2 Inv-loop μ-loop → tie.At-loop Inv-loop μ-loop
+head c = c .before .before .before .before
 
 loop-holds : tie.Need-loop-holds Inv-loop μ-loop
 loop-holds c = (omega arith, λ n os. peers-none _ _ _ _)
@@ -34,17 +38,17 @@ element-copy-out-todo c = search needs
 
 sub-drain-peer : tie.Need-sub-drain-peer Inv-loop μ-loop
 sub-drain-peer c =
-    let v = c .before .before .before .before .loop .inv .1 bare [] in
+    let v = head c .loop .inv .1 bare [] in
     search needs
 
 drain-peer-requires : tie.Need-drain-peer-requires Inv-loop μ-loop
 drain-peer-requires c κs =
-    let turn = c .before .before .before .before in
-    (search needs, turn .before .pre)
+    let given = head c .before .pre in
+    (search needs, (given .0, (given .1 .0, given .1 .1 _ (search needs))))
 
 add-made : tie.Need-add-made Inv-loop μ-loop
 add-made c =
-    let turn = c .before .before .before .before .before in
+    let turn = head (c .before) in
     omega (
       arith,
       peers-more _ _ _ _ _ (turn .loop .inv .1 bare []) refl (c .drain-peer .ensures .1 bare [])
@@ -59,7 +63,7 @@ loop-less c = search needs
 
 loop-again : tie.Need-loop-again Inv-loop μ-loop
 loop-again c =
-    let turn = c .before .before .before .before .before in
+    let turn = head (c .before) in
     (omega arith, λ n os. peers-more _ _ _ _ _ (turn .loop .inv .1 n os) refl (c .drain-peer .ensures .1 n os) (c .drain-peer .ensures .0))
 
 returns : tie.Need-returns Inv-loop μ-loop

@@ -16,11 +16,28 @@ use Rattle.drain.proofs.drain_peer.Statement.{statement}
 use Rattle.drain.proofs.drain_peer.Tie as tie
 
 abbrev Inv-loop : tie.InvT-loop
-Inv-loop pending₀ seen₀ known topics words p todo left all made₀ rest₀ pending seen made rest =
+Inv-loop pending₀ seen₀ known topics words used p todo left all made₀ rest₀ pending seen made rest =
     (n : Network) (os : List ℕ) → Walk (fwd (table topics os)) (withMessages n pending₀ seen₀ known) (p .0) todo left (withMessages n pending seen known) rest made
 
 abbrev μ-loop : tie.MeasureT-loop
-μ-loop pending₀ seen₀ known topics words p todo left all made₀ rest₀ pending seen made rest = left - made
+μ-loop pending₀ seen₀ known topics words used p todo left all made₀ rest₀ pending seen made rest = left - made
+
+-- from the place where all were counted: the start; where they are forwarded at once; and where the loop begins
+abbrev start : tie.After-members Inv-loop μ-loop → tie.Start Inv-loop μ-loop
+start c = c .before .before
+
+abbrev at-once : tie.After-forward-set-arg2 Inv-loop μ-loop → tie.Then2 Inv-loop μ-loop
+at-once c = c .before .before
+
+abbrev counted : tie.At-loop Inv-loop μ-loop → tie.After-members Inv-loop μ-loop
+counted h = h .before .before
+
+-- from the place where the least message was taken: the loop's head; and to there from its forward
+abbrev head : tie.After-lowest64 Inv-loop μ-loop → tie.At-loop Inv-loop μ-loop
+head c = c .before .before .before
+
+abbrev least : tie.After-forward-arg2 Inv-loop μ-loop → tie.After-lowest64 Inv-loop μ-loop
+least c = c .before .before
 
 returns : tie.Need-returns Inv-loop μ-loop
 returns c =
@@ -34,12 +51,12 @@ members-requires c κs = search needs
 
 forward-set-requires : tie.Need-forward-set-requires Inv-loop μ-loop
 forward-set-requires c κs =
-    let start = c .before .before .before .before .before in
-    start .pre
+    let given = start (at-once c .before) .pre in
+    (given .0, given .1 .1)
 
 returns-2 : tie.Need-returns-2 Inv-loop μ-loop
 returns-2 c =
-    let asked = c .before .before .before in
+    let asked = at-once (c .before) in
     all-at-once (search needs) (asked .before .members .ensures .0) (asked .if2 .taken) (c .forward-set .ensures)
 
 loop-holds : tie.Need-loop-holds Inv-loop μ-loop
@@ -52,13 +69,11 @@ returns-3 c =
 lowest64-requires : tie.Need-lowest64-requires Inv-loop μ-loop
 lowest64-requires c κs = search needs
 
-cast-t22 : tie.Need-cast-t22 Inv-loop μ-loop
-cast-t22 c = search needs
+cast-t23 : tie.Need-cast-t23 Inv-loop μ-loop
+cast-t23 c = search needs
 
 forward-requires : tie.Need-forward-requires Inv-loop μ-loop
-forward-requires c κs =
-    let start = c .before .before .before .before .before .before .before .before .before in
-    (search needs, search needs, start .pre .1 .0 _)
+forward-requires c κs = (search needs, search needs, start (counted (head (least c))) .pre .1 .0 _)
 
 rest64-requires : tie.Need-rest64-requires Inv-loop μ-loop
 rest64-requires c κs = search needs
@@ -72,16 +87,14 @@ loop-less c = search needs
 loop-again : tie.Need-loop-again Inv-loop μ-loop
 unfolding fwd
 loop-again c =
-    let least = c .before .before .before .before in
-    let turn = least .before .before .before in
-    λ n os. walk-more _ _ _ _ _ (turn .loop .inv n os) (search needs) (search needs)
-    (least .lowest64 .ensures .0) (c .rest64 .ensures .0) (c .before .forward .ensures .1 n os)
+    let low = least (c .before .before) in
+    λ n os. walk-more _ _ _ _ _ (head low .loop .inv n os) (search needs) (search needs)
+    (low .lowest64 .ensures .0) (c .rest64 .ensures .0) (c .before .forward .ensures .1 n os)
 
 returns-4 : tie.Need-returns-4 Inv-loop μ-loop
 returns-4 c =
     let v = c .before .loop .inv bare [] in
-    let start = c .before .before .before .before .before in
-    let e : c .before .loop .made ≡ start .args .left = omega arith in
+    let e : c .before .loop .made ≡ start (counted (c .before)) .args .left = omega arith in
     (walk-done _ _ _ _ _ v (inr e) .0, λ n os. walk-done _ _ _ _ _ (c .before .loop .inv n os) (inr e) .1)
 
 pub drain-peer-spec : {M : Type 1} → statement M
@@ -97,7 +110,7 @@ drain-peer-spec =
     loop-holds
     returns-3
     lowest64-requires
-    cast-t22
+    cast-t23
     forward-requires
     rest64-requires
     add-made

@@ -1,17 +1,29 @@
--- `drain::forward_set` meets its contract. Assumes nothing.
+-- `drain::forward_set` meets its contract. The loop has spread the messages whose topic is not left. Assumes nothing.
 use borrow.Author.Needs.{needs}
 use mathlib.Core.Logic.{⊎-elim}
-use Prim.Native.Nat.{_-_, _<_}
-use native.Mathlib.Omega.{arith}
-use Rattle.drain.proofs.AtOnce.{of-words, Spreading, spreading-none, spreading-more, spreading-skip, spreading-done}
+use Rattle.drain.proofs.AtOnce.{Spreading, spreading-none, spreading-more, spreading-skip, spreading-done}
 use Rattle.drain.proofs.forward_set.Statement.{statement}
 use Rattle.drain.proofs.forward_set.Tie as tie
 
 abbrev Inv-loop : tie.InvT-loop
-Inv-loop pending₀ seen known topics words todo i t₀ pending t = Spreading known topics seen i todo t pending₀ pending
+Inv-loop pending₀ seen known topics words used todo i left₀ pending left = Spreading known topics seen i todo left pending₀ pending
 
 abbrev μ-loop : tie.MeasureT-loop
-μ-loop pending₀ seen known topics words todo i t₀ pending t = 32 - t
+μ-loop pending₀ seen known topics words used todo i left₀ pending left = left
+
+-- from the place before the loop: the start; where p's pending word was made
+abbrev start : tie.After-union64 Inv-loop μ-loop → tie.Start Inv-loop μ-loop
+start c = c .before .before .before .before .before
+
+abbrev less : tie.After-union64 Inv-loop μ-loop → tie.After-minus64 Inv-loop μ-loop
+less c = c .before .before
+
+-- from the place where a topic's messages were taken: where the topic was; and from there the loop's head
+abbrev least : tie.After-meet64 Inv-loop μ-loop → tie.After-lowest32 Inv-loop μ-loop
+least c = c .before .before
+
+abbrev head : tie.After-lowest32 Inv-loop μ-loop → tie.At-loop Inv-loop μ-loop
+head c = c .before .before
 
 cast-i : tie.Need-cast-i Inv-loop μ-loop
 cast-i c = search needs
@@ -47,7 +59,13 @@ element-write-seen : tie.Need-element-write-seen Inv-loop μ-loop
 element-write-seen c = search needs
 
 loop-holds : tie.Need-loop-holds Inv-loop μ-loop
-loop-holds c = spreading-none (search needs) _
+loop-holds c = spreading-none (search needs) (start c .pre .1 .1) (search needs) _
+
+lowest32-requires : tie.Need-lowest32-requires Inv-loop μ-loop
+lowest32-requires c κs = search needs
+
+cast-t : tie.Need-cast-t Inv-loop μ-loop
+cast-t c = search needs
 
 mul-meet64 : tie.Need-mul-meet64 Inv-loop μ-loop
 mul-meet64 c = search needs
@@ -73,30 +91,28 @@ element-copy-out-give-set c = search needs
 give-set-requires : tie.Need-give-set-requires Inv-loop μ-loop
 give-set-requires c κs = search needs
 
-add-t : tie.Need-add-t Inv-loop μ-loop
-add-t c = search needs
+rest32-requires : tie.Need-rest32-requires Inv-loop μ-loop
+rest32-requires c κs = search needs
 
 loop-less : tie.Need-loop-less Inv-loop μ-loop
 loop-less c = search needs
 
 loop-again : tie.Need-loop-again Inv-loop μ-loop
 loop-again c =
-    let turn = c .before .before .before .before in
-    let s = turn .before .before .before .before .before .before in
-    let v = turn .loop .inv in
-    let l : turn .loop .t < 32 = omega arith in
-    let e = of-words (s .args .topics .now) (s .args .words .now) (s .fits .todo .fits) (s .pre .1 .1) l (c .before .meet64 .ensures) in
+    let met = c .before .before in
+    let low = least met in
+    let s = start (head low .before) in
+    let v = head low .loop .inv in
     ⊎-elim
-    (λ w. rw (w .5) (spreading-more (search needs) v l e (w .4 .ensures .1) (w .4 .ensures .0)))
-    (λ w. rw (w .1) (spreading-skip (search needs) v l e (w .0 .left)))
-    (c .if1 .came)
+    (λ w. rw (w .5) (spreading-more (search needs) (s .pre .1 .1) (s .pre .1 .0) v (search needs) (low .lowest32 .ensures .0) (c .rest32 .ensures .0) (met .meet64 .ensures) (w .4 .ensures .1) (w .4 .ensures .0)))
+    (λ w. rw (w .1) (spreading-skip (search needs) (s .pre .1 .1) (s .pre .1 .0) v (search needs) (low .lowest32 .ensures .0) (c .rest32 .ensures .0) (met .meet64 .ensures) (w .0 .left)))
+    (c .before .if1 .came)
 
 returns : tie.Need-returns Inv-loop μ-loop
 returns c =
-    let less = c .before .before .before .before in
-    let s = less .before .before .before in
-    spreading-done (s .args .pending .now) (s .args .seen .now) (s .args .p .0) (search needs) (s .pre .1 .0) (less .minus64 .ensures)
-    (c .before .before .union64 .ensures) (c .before .loop .inv) (omega arith)
+    let moved = c .before .before in
+    let a = start moved .args in
+    spreading-done (a .pending .now) (a .seen .now) (a .p .0) (search needs) (less moved .minus64 .ensures) (moved .union64 .ensures) (c .before .loop .inv) (c .loop-test .left)
 
 pub forward-set-spec : {M : Type 1} → statement M
 forward-set-spec =
@@ -116,6 +132,8 @@ forward-set-spec =
     mul-seen
     element-write-seen
     loop-holds
+    lowest32-requires
+    cast-t
     mul-meet64
     element-copy-out-meet64
     meet64-requires
@@ -124,7 +142,7 @@ forward-set-spec =
     mul-give-set-2
     element-copy-out-give-set
     give-set-requires
-    add-t
+    rest32-requires
     loop-less
     loop-again
     returns)

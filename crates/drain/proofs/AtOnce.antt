@@ -17,7 +17,7 @@ use Rattle.sets.specs.laws.Visits.{visit-new}
 use Rattle.lists.specs.Edit.{edit}
 use Rattle.lists.specs.laws.Edit.{edit-none}
 use Rattle.floodnet.specs.laws.CodeVisit.{edit-store, edit-then, Along, along-more}
-use Rattle.drain.specs.AtOnce.{gives, Apart, AllFiled, reach, spread, AtOnce}
+use Rattle.drain.specs.AtOnce.{gives, OwnTopics, AllFiled, reach, spread, AtOnce}
 
 -- those of s that do not hold it
 pub has-left : (s : ℕ) (holds : ℕ → Bool) → s < 2 ^ 32 → (q : ℕ) → has (minus s (sift 32 s holds)) q ≡ has s q && not (has s q && holds q)
@@ -49,13 +49,13 @@ giving {s} {left} {left′} {q} {v} {l₀} {l} w f a p eq el ev =
     new = visit-new left s q (ap (has left) eq ∙ lowest-has 32 left p (a .below))
 
 -- p's messages of topic t: those of todo that the word of t has
-of-words : {ts words : List ℕ} {used t w : ℕ} (todo : ℕ) → Apart ts words → AllFiled ts words used todo → t < 32 → w ≡ meet todo (getD words t 0)
+of-words : {ts words : List ℕ} {used t w : ℕ} (todo : ℕ) → OwnTopics ts words → AllFiled ts words used todo → t < 32 → w ≡ meet todo (getD words t 0)
     → (j : ℕ) → has w j ≡ has todo j && eqb (getD ts j 0) t
-of-words {ts} {words} {used} {t} {w} todo apart filed l e j = ap (λ (x : ℕ). has x j) e ∙ has-meet todo (getD words t 0) j ∙ go (has todo j) refl
+of-words {ts} {words} {used} {t} {w} todo own filed l e j = ap (λ (x : ℕ). has x j) e ∙ has-meet todo (getD words t 0) j ∙ go (has todo j) refl
   where
     go : (d : Bool) → has todo j ≡ d → d && has (getD words t 0) j ≡ d && eqb (getD ts j 0) t
     go true h =
-        bool-ext (λ x. eq-eqb (getD ts j 0) t (apart t j l x))
+        bool-ext (λ x. eq-eqb (getD ts j 0) t (own t j l x))
         (λ x. ap (λ (i : ℕ). has (getD words i 0) j) (sym (eqb-true (getD ts j 0) t x)) ∙ filed j h .word)
     go false h = refl
 
@@ -97,10 +97,10 @@ module _ {g ts words f : List ℕ} {p used todo : ℕ} (b : todo < 2 ^ 64) (file
       none j = and-no (has todo j) _ (λ h. ap not (filed j h .topic))
 
   -- t, the least topic that is left, has its turn
-  module _ {left left′ t w : ℕ} {e₀ e : List ℕ} (apart : Apart ts words) (v : Spreading g ts f p todo left e₀ e) (some : 0 < left) (et : t ≡ lowest 32 left)
+  module _ {left left′ t w : ℕ} {e₀ e : List ℕ} (own : OwnTopics ts words) (v : Spreading g ts f p todo left e₀ e) (some : 0 < left) (et : t ≡ lowest 32 left)
       (el : left′ ≡ minus left (only (lowest 32 left))) (ew : w ≡ meet todo (getD words t 0)) where
     of-topic : (j : ℕ) → has w j ≡ has todo j && eqb (getD ts j 0) t
-    of-topic = of-words todo apart filed (rw et (lowest-lt 32 left some (v .below))) ew
+    of-topic = of-words todo own filed (rw et (lowest-lt 32 left some (v .below))) ew
 
     still-below : left′ < 2 ^ 32
     still-below = rw el (minus-lt 32 left (only (lowest 32 left)) (v .below))

@@ -21,7 +21,7 @@ use Rattle.sets.specs.laws.Bounds.{has-in, union-lt, minus-lt, only-lt}
 use Rattle.sets.specs.laws.Build.{has-setOf, is-setOf, setOf-lt, has-sifted}
 use Rattle.sets.specs.laws.Lowest.{lowest-has, lowest-lt}
 use Rattle.sets.specs.laws.Visits.{minus-self, minus-none, subset-self, subset-step, visit-step, setOf-none, Visit, visit-none, visit-yes, visit-no, visit-done}
-use Rattle.drain.specs.AtOnce.{anywhereOf, topicsOf, ByTopic, Apart, EachFiled}
+use Rattle.drain.specs.AtOnce.{anywhereOf, topicsOf, ByTopic, OwnTopics, EachFiled}
 
 -- ---- `anywhere`
 
@@ -154,8 +154,8 @@ sorting-done v e t l = visit-done (v .each t l) e
 -- ---- then every pending message is filed
 
 -- A word has messages of its topic alone.
-pub apart-words : (ts words : List ℕ) {s : ℕ} → s < 2 ^ 64 → ByTopic ts s words → Apart ts words
-apart-words ts words {s} b h t m l e =
+pub own-topics : (ts words : List ℕ) {s : ℕ} → s < 2 ^ 64 → ByTopic ts s words → OwnTopics ts words
+own-topics ts words {s} b h t m l e =
     eqb-true (getD ts m 0) t (and-yes (has s m) _ (sym (has-sifted 64 s (λ (i : ℕ). eqb (getD ts i 0) t) b m) ∙ ap (λ (w : ℕ). has w m) (sym (h t l)) ∙ e) .1)
 
 -- Every message of the words of l is in the word of its topic, and its topic is used.

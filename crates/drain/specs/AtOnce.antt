@@ -32,8 +32,8 @@ abbrev pub ByTopic : List ℕ → ℕ → List ℕ → Type 0
 ByTopic ts s r = (t : ℕ) → t < 32 → getD r t 0 ≡ sift 64 s (λ (m : ℕ). eqb (getD ts m 0) t)
 
 -- No word has a message of another topic.
-abbrev pub Apart : List ℕ → List ℕ → Type 0
-Apart ts words = (t m : ℕ) → t < 32 → has (getD words t 0) m ≡ true → getD ts m 0 ≡ t
+abbrev pub OwnTopics : List ℕ → List ℕ → Type 0
+OwnTopics ts words = (t m : ℕ) → t < 32 → has (getD words t 0) m ≡ true → getD ts m 0 ≡ t
 
 -- m is filed: its topic is among those used, and m is in the word of its topic. So a walk of the topics used, each with its word, meets m.
 pub record Filed (ts words : List ℕ) (used m : ℕ) : Type 0 where

@@ -12,7 +12,7 @@ ghost use lib.ListN.{length, getD, take};
 ghost use Rattle.sets.specs.Set.{has, count};
 ghost use Rattle.lists.specs.Edit.{edit};
 ghost use Rattle.drain.specs.Pairs.{pairsOf, listOf, waitingOf, emptyWords};
-ghost use Rattle.drain.specs.AtOnce.{anywhereOf, topicsOf, ByTopic, Apart, AllFiled, EachFiled, gives, AtOnce};
+ghost use Rattle.drain.specs.AtOnce.{anywhereOf, topicsOf, ByTopic, OwnTopics, AllFiled, EachFiled, gives, AtOnce};
 ghost use Rattle.drain.specs.Lent.{Leads, DrainsTo};
 use network::Message;
 use network::Peer;
@@ -114,7 +114,7 @@ fn forward_set(
     todo: u64,
 )
     requires { ⌜ p .0 < 32 ⌝ }
-    requires { ⌜ Apart (now topics) (now words) ⌝ }
+    requires { ⌜ OwnTopics (now topics) (now words) ⌝ }
     requires { ⌜ AllFiled (now topics) (now words) used todo ⌝ }
     ensures { λ z.
         ⌜ AtOnce (now (known .entry)) (now (topics .entry)) (now (pending .entry)) (now (seen .entry)) (p .0) todo (now (pending .exit))
@@ -149,7 +149,7 @@ fn drain_peer(
 ) -> u32
     requires { ⌜ p .0 < 32 ⌝ }
     requires { ⌜ ((i : ℕ) → getD (now topics) i 0 < 32) ⌝ }
-    requires { ⌜ Apart (now topics) (now words) ⌝ }
+    requires { ⌜ OwnTopics (now topics) (now words) ⌝ }
     requires { ⌜ AllFiled (now topics) (now words) used todo ⌝ }
     ensures { λ r. ⌜ r ≡ length (take left (pairsOf (p .0) todo 64)) ⌝ }
     ensures { λ r.
@@ -199,7 +199,7 @@ fn drain_listed(
     left: u32,
 ) -> u32
     requires { ⌜ ((i : ℕ) → getD (now topics) i 0 < 32) ⌝ }
-    requires { ⌜ Apart (now topics) (now words) ⌝ }
+    requires { ⌜ OwnTopics (now topics) (now words) ⌝ }
     requires { ⌜ EachFiled (now topics) (now words) used (now listed) ⌝ }
     ensures { λ r. ⌜ r ≡ length (take left (listOf (now (listed .entry)) 32)) ⌝ }
     ensures { λ r. ⌜ Leads (now (known .entry)) (now (topics .entry)) (now (pending .entry)) (now (seen .entry))
@@ -236,7 +236,7 @@ fn drain_round(
     left: u32,
 ) -> u32
     requires { ⌜ ((i : ℕ) → getD (now topics) i 0 < 32) ⌝ }
-    requires { ⌜ Apart (now topics) (now words) ⌝ }
+    requires { ⌜ OwnTopics (now topics) (now words) ⌝ }
     requires { ⌜ EachFiled (now topics) (now words) used (now pending) ⌝ }
     ensures { λ r. ⌜ r ≡ length (take left (listOf (now (pending .entry)) 32)) ⌝ }
     ensures { λ r. ⌜ Leads (now (known .entry)) (now (topics .entry)) (now (pending .entry)) (now (seen .entry))

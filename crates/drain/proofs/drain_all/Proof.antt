@@ -10,7 +10,7 @@ use borrow.Author.Tests.{eq-eqb}
 use Rattle.network.specs.laws.Network.{bare}
 use Rattle.drain.specs.laws.LentLaws.{Draining, lent-none, lent-done, lent-fits, lent-moves, lent-round, lent-part}
 use Rattle.drain.specs.AtOnce.{Filed, EachFiled}
-use Rattle.drain.proofs.Filing.{apart-words, each-filed}
+use Rattle.drain.proofs.Filing.{own-topics, each-filed}
 use Rattle.drain.proofs.Within.{leads-within}
 use Rattle.drain.proofs.drain_all.Statement.{statement}
 use Rattle.drain.proofs.drain_all.Tie as tie
@@ -68,7 +68,7 @@ drain-round-requires : tie.Need-drain-round-requires Inv-loop μ-loop
 drain-round-requires c κs =
     let turn = head (c .before .before .before .before) in
     let s = sorted turn in
-    (start s .pre, (apart-words (start s .args .topics .now) (s .by-topic .result) (search needs) (s .by-topic .ensures), turn .loop .inv .1))
+    (start s .pre, (own-topics (start s .args .topics .now) (s .by-topic .result) (search needs) (s .by-topic .ensures), turn .loop .inv .1))
 
 -- one round: within the budget, and something was forwarded
 fits : (c : tie.After-drain-round Inv-loop μ-loop)

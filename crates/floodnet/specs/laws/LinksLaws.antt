@@ -34,6 +34,24 @@ between p who a c = (eqb (a .0) (p .0) && has who (c .0)) || (eqb (c .0) (p .0) 
 
 -- ---- the observations, one law each
 
+-- What neither changes: who is present, what is published and subscribed to, the messages pending and seen.
+pub record SameButLinks (n m : Network) : Type 0 where
+  pub present : m .present ≡ n .present
+  pub pubs : m .pubs ≡ n .pubs
+  pub subs : m .subs ≡ n .subs
+  pub pending : m .pending ≡ n .pending
+  pub seen : m .seen ≡ n .seen
+
+-- Recording changes nothing else.
+pub up-rest : (n : Network) (p : Peer) (who : ℕ) → SameButLinks n (linkUp n p who)
+unfolding linkUp
+up-rest n p who = record { present = refl; pubs = refl; subs = refl; pending = refl; seen = refl }
+
+-- Nor does forgetting.
+pub down-rest : (n : Network) (p : Peer) (who : ℕ) → SameButLinks n (linkDown n p who)
+unfolding linkDown
+down-rest n p who = record { present = refl; pubs = refl; subs = refl; pending = refl; seen = refl }
+
 -- The links that were there, and those between p and `who`.
 pub linked-up : {n : Network} → Shaped n → (p : Peer) (who : ℕ) (a c : Peer) → a .0 < 32 → linked (linkUp n p who) a c ≡ linked n a c || between p who a c
 unfolding linkUp

@@ -8,16 +8,16 @@ use native.Mathlib.Decide.{decLt}
 use lib.ListN.{length, getD}
 use lib.Seq.{ext-getD}
 use Rattle.sets.specs.Set.{has}
-use Rattle.sets.specs.laws.Bools.{clash}
-use Rattle.sets.specs.laws.Members.{ext-below}
+use Rattle.sets.specs.laws.Bools.{clash, not-false}
+use Rattle.sets.specs.laws.Members.{ext-below, has-none}
 use Rattle.flooding.specs.Network as flooding
-use Rattle.flooding.specs.Network.{Net, link, forward}
+use Rattle.flooding.specs.Network.{Net, Quiet, link, forward}
 use Rattle.flooding.specs.laws.Machine.{Machine}
 use Rattle.network.specs.declared.Peer.{Peer}
 use Rattle.network.specs.declared.Topic.{Topic}
 use Rattle.network.specs.declared.Network.{Network}
 use Rattle.network.specs.declared.Table.{Table}
-use Rattle.network.specs.Network.{withPending, withSeen, peer, topic, message, spot, present, subscribed, linked, pending, knows, topicOf, Shaped, Rows}
+use Rattle.network.specs.Network.{withPending, withSeen, peer, topic, message, pendingOf, spot, present, subscribed, linked, pending, knows, topicOf, Shaped, Rows}
 use Rattle.network.specs.Sound.{Sound}
 use Rattle.network.specs.laws.SoundLaws.{present-peer, pending-peer, pending-message, pending-present, saw-message, saw-present, knows-present}
 use Rattle.floodnet.specs.Forward.{forwarded, given, moved}
@@ -38,6 +38,12 @@ view-linked {n} s {b} rows m p q = go (decLt p 32)
         let o : length (n .known) ≤ p * 32 + getD (b .topics) m 0 = omega (arith, s .shaped .known) in
         let u : length (n .neighbours) ≤ p = omega (arith, s .shaped .neighbours) in
         has-beyond (n .known) (p * 32 + getD (b .topics) m 0) q o ∙ sym (rw (has-beyond (n .neighbours) p q u))
+
+-- Where every peer's set of pending messages is empty, nothing is pending.
+pub empty-quiet : {n : Network} (b : Table) → Shaped n → ((p : Peer) → p .0 < 32 → pendingOf n p ≡ 0) → Quiet (view b n)
+unfolding view
+empty-quiet {n} b s h p m =
+    not-false λ e. clash e (ap (λ (w : ℕ). has w m) (h (peer p) (pending-peer s (peer p) (message m) e)) ∙ has-none m)
 
 -- ---- a sound network shows a sound one
 

@@ -27,6 +27,10 @@ within l k i j e h = lt-of-not-le λ (o : k ≤ i). clash h (ap (λ (w : ℕ). h
 pub present-peer : {n : Network} → Shaped n → (p : Peer) → present n p ≡ true → p .0 < 32
 present-peer s p h = has-in 32 _ _ (s .present) h
 
+-- who subscribes
+pub subscribed-peer : {n : Network} → Shaped n → (p : Peer) (t : Topic) → subscribed n p t ≡ true → p .0 < 32
+subscribed-peer {n} s p t h = within (n .subs) 32 (p .0) (t .0) (s .subs) h
+
 -- who lists whom
 pub linked-peer : {n : Network} → Shaped n → (p q : Peer) → linked n p q ≡ true → p .0 < 32
 linked-peer {n} s p q h = within (n .neighbours) 32 (p .0) (q .0) (s .neighbours) h
@@ -57,6 +61,10 @@ has-present {n} s p w i b e h = go (present n p) λ a. clash h (ap (λ (x : ℕ)
     go : (x : Bool) → (x ≡ false → x ≡ true) → x ≡ true
     go true f = refl
     go false f = f refl
+
+-- whoever subscribes is present
+pub subscribed-present : {n : Network} → Sound n → (p : Peer) (t : Topic) → subscribed n p t ≡ true → present n p ≡ true
+subscribed-present s p t h = has-present s p _ _ (subscribed-peer (s .shaped) p t h) (λ e. e .subs) h
 
 pub pending-present : {n : Network} → Sound n → (p : Peer) (m : Message) → pending n p m ≡ true → present n p ≡ true
 pending-present s p m h = has-present s p _ _ (pending-peer (s .shaped) p m h) (λ e. e .pending) h

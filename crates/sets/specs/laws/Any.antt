@@ -76,10 +76,6 @@ all-same (suc n) f g h = ap₂ _&&_ (all-same n f g λ i b. h i (omega arith)) (
 
 -- ---- a loop that asks the numbers one by one: it keeps r ≡ any q f, or r ≡ all q f
 
-pub any-start : (f : ℕ → Bool) → false ≡ any 0 f
-unfolding any
-any-start f = refl
-
 pub any-more : (n : ℕ) (f : ℕ → Bool) → any (n + 1) f ≡ any n f || f n
 unfolding any
 any-more n f = ap (λ (x : ℕ). any x f) (add-one n)

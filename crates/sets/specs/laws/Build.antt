@@ -1,5 +1,5 @@
 -- What is done to a set where a test is true, the comprehension `setOf`, and the loop that fills a word place by place. Assumes nothing.
-use mathlib.Core.Path.{_≡_, refl, sym, ap, _∙_, subst}
+use mathlib.Core.Path.{_≡_, refl, sym, ap, _∙_}
 use mathlib.Core.Logic.{_⊎_, inl, inr}
 use mathlib.Core.Bool.{Bool, true, false, not, _&&_, _||_, and-true, and-false, or-false}
 use Prim.Native.Nat.{ℕ, zero, suc, _+_, _^_, _≤_, _<_}
@@ -9,8 +9,8 @@ use native.Mathlib.Omega.{arith}
 use borrow.Author.Tests.{ltb-true, ltb-false}
 use lib.Dec.{eqb, ltb}
 use Rattle.sets.specs.Set.{has, union, only, when, puts, strikes, empties, withIf, setOf, sift}
-use Rattle.sets.specs.laws.Bools.{either, not-false, eqb-same, ne-eqb}
-use Rattle.sets.specs.laws.Members.{has-union, has-minus, has-none, has-only, ext, ext-below}
+use Rattle.sets.specs.laws.Bools.{either, eqb-same, ne-eqb}
+use Rattle.sets.specs.laws.Members.{has-union, has-minus, has-none, has-only, ext-below}
 use Rattle.sets.specs.laws.Bounds.{has-out, union-lt, minus-lt, only-lt}
 
 -- ---- what is done where b is true
@@ -90,14 +90,6 @@ setOf-has n w h = sym (is-setOf n (has w) w h (λ i l. refl))
 -- Tests that agree below n have one comprehension.
 pub setOf-same : (n : ℕ) (f g : ℕ → Bool) → ((i : ℕ) → i < n → f i ≡ g i) → setOf n f ≡ setOf n g
 setOf-same n f g e = is-setOf n g (setOf n f) (setOf-lt n f) (λ i l. has-setOf n f i l ∙ e i l)
-
--- A set whose members are all below n is a word of n bits.
-pub lt-of-members : (n w : ℕ) → ((i : ℕ) → has w i ≡ true → i < n) → w < 2 ^ n
-lt-of-members n w h = subst (λ (x : ℕ). x < 2 ^ n) (ext (setOf n (has w)) w (λ i. go i (either (ltb i n)))) (setOf-lt n (has w))
-  where
-    go : (i : ℕ) → (ltb i n ≡ true) ⊎ (ltb i n ≡ false) → has (setOf n (has w)) i ≡ has w i
-    go i (inl l) = has-setOf n (has w) i (ltb-true i n l)
-    go i (inr l) = let o = ltb-false i n l in has-setOf-out n (has w) i o ∙ sym (not-false λ e. omega (arith, h i e))
 
 -- ---- the members that pass a test
 

@@ -59,27 +59,27 @@ of-words {ts} {words} {used} {t} {w} todo own filed l e j = ap (λ (x : ℕ). ha
         (λ x. ap (λ (i : ℕ). has (getD words i 0) j) (sym (eqb-true (getD ts j 0) t x)) ∙ filed j h .word)
     go false h = refl
 
--- the messages of w whose topic is not among those left
-unfoldable pub under : List ℕ → ℕ → ℕ → ℕ
-under ts w left = sift 64 w (λ (m : ℕ). not (has left (getD ts m 0)))
+-- the messages of w whose topic is not among those left: it has had its turn
+unfoldable pub past : List ℕ → ℕ → ℕ → ℕ
+past ts w left = sift 64 w (λ (m : ℕ). not (has left (getD ts m 0)))
 
 -- What the loop over the topics keeps: the messages whose topic is not left have been spread.
 pub record Spreading (g ts f : List ℕ) (p todo left : ℕ) (e₀ e : List ℕ) : Type 0 where
   pub below : left < 2 ^ 32
-  pub made : e ≡ spread g ts f p (under ts todo left) e₀
+  pub made : e ≡ spread g ts f p (past ts todo left) e₀
   pub fit : (j : ℕ) → has todo j ≡ true → has left (getD ts j 0) ≡ false → getD g (p * 32 + getD ts j 0) 0 < 2 ^ 32
 
 pub has-reach : (g ts : List ℕ) (p w q : ℕ) → w < 2 ^ 64 → (j : ℕ) → has (reach g ts p w q) j ≡ has w j && has (getD g (p * 32 + getD ts j 0) 0) q
 unfolding reach
 has-reach g ts p w q b j = has-sifted 64 w (λ (m : ℕ). has (getD g (p * 32 + getD ts m 0) 0) q) b j
 
-has-under : (ts : List ℕ) (todo : ℕ) → todo < 2 ^ 64 → (left j : ℕ) → has (under ts todo left) j ≡ has todo j && not (has left (getD ts j 0))
-unfolding under
-has-under ts todo b left j = has-sifted 64 todo (λ (m : ℕ). not (has left (getD ts m 0))) b j
+has-past : (ts : List ℕ) (todo : ℕ) → todo < 2 ^ 64 → (left j : ℕ) → has (past ts todo left) j ≡ has todo j && not (has left (getD ts j 0))
+unfolding past
+has-past ts todo b left j = has-sifted 64 todo (λ (m : ℕ). not (has left (getD ts m 0))) b j
 
-under-lt : (ts : List ℕ) (todo left : ℕ) → under ts todo left < 2 ^ 64
-unfolding under
-under-lt ts todo left = sift-lt 64 todo (λ (m : ℕ). not (has left (getD ts m 0)))
+past-lt : (ts : List ℕ) (todo left : ℕ) → past ts todo left < 2 ^ 64
+unfolding past
+past-lt ts todo left = sift-lt 64 todo (λ (m : ℕ). not (has left (getD ts m 0)))
 
 module _ {g ts words f : List ℕ} {p used todo : ℕ} (b : todo < 2 ^ 64) (filed : AllFiled ts words used todo) where
   -- before the first turn: every topic of todo is left
@@ -88,8 +88,8 @@ module _ {g ts words f : List ℕ} {p used todo : ℕ} (b : todo < 2 ^ 64) (file
   spreading-none bu e = record {
     below = bu;
     made =
-        edit-none (λ q x. union x (minus (reach g ts p (under ts todo used) q) (getD f q 0))) e
-        (λ i. ext _ _ (λ j. simp (members, has-reach g ts p (under ts todo used) i (under-lt ts todo used), has-under ts todo b used j, none j) (or-false (has (getD e i 0) j))));
+        edit-none (λ q x. union x (minus (reach g ts p (past ts todo used) q) (getD f q 0))) e
+        (λ i. ext _ _ (λ j. simp (members, has-reach g ts p (past ts todo used) i (past-lt ts todo used), has-past ts todo b used j, none j) (or-false (has (getD e i 0) j))));
     fit = λ j h k. clash (filed j h .topic) k;
   }
     where
@@ -105,6 +105,7 @@ module _ {g ts words f : List ℕ} {p used todo : ℕ} (b : todo < 2 ^ 64) (file
     still-below : left′ < 2 ^ 32
     still-below = rw el (minus-lt 32 left (only (lowest 32 left)) (v .below))
 
+    -- t was left and is no more; the other topics are left or not as they were
     there : has left t ≡ true
     there = rw et (lowest-has 32 left some (v .below))
 
@@ -121,9 +122,9 @@ module _ {g ts words f : List ℕ} {p used todo : ℕ} (b : todo < 2 ^ 64) (file
       below = still-below;
       made =
           ee ∙ ap (edit (gives w f s)) (v .made)
-          ∙ edit-then (λ q x. union x (minus (reach g ts p (under ts todo left) q) (getD f q 0))) (gives w f s) (λ q x. union x (minus (reach g ts p (under ts todo left′) q) (getD f q 0))) e₀
-          (λ q x. ext _ _ (λ j. has-puts (has s q) (minus w (getD f q 0)) (union x (minus (reach g ts p (under ts todo left) q) (getD f q 0))) j
-          ∙ simp (members, has-reach g ts p (under ts todo left) q (under-lt ts todo left), has-reach g ts p (under ts todo left′) q (under-lt ts todo left′), has-under ts todo b left j, has-under ts todo b left′ j, of-topic j)
+          ∙ edit-then (λ q x. union x (minus (reach g ts p (past ts todo left) q) (getD f q 0))) (gives w f s) (λ q x. union x (minus (reach g ts p (past ts todo left′) q) (getD f q 0))) e₀
+          (λ q x. ext _ _ (λ j. has-puts (has s q) (minus w (getD f q 0)) (union x (minus (reach g ts p (past ts todo left) q) (getD f q 0))) j
+          ∙ simp (members, has-reach g ts p (past ts todo left) q (past-lt ts todo left), has-reach g ts p (past ts todo left′) q (past-lt ts todo left′), has-past ts todo b left j, has-past ts todo b left′ j, of-topic j)
           (go q j (has todo j) (has x j) (has (getD f q 0) j) (ℕ-discrete (getD ts j 0) t))));
       fit = λ j h k. fits j h k (ℕ-discrete (getD ts j 0) t);
     }
@@ -155,7 +156,7 @@ module _ {g ts words f : List ℕ} {p used todo : ℕ} (b : todo < 2 ^ 64) (file
       below = still-below;
       made =
           v .made ∙ ap (λ (x : ℕ). spread g ts f p x e₀)
-          (ext (under ts todo left) (under ts todo left′) (λ j. has-under ts todo b left j ∙ go j (has todo j) refl ∙ sym (has-under ts todo b left′ j)));
+          (ext (past ts todo left) (past ts todo left′) (λ j. has-past ts todo b left j ∙ go j (has todo j) refl ∙ sym (has-past ts todo b left′ j)));
       fit = λ j h k. v .fit j h (sym (other (getD ts j 0) (none j h)) ∙ k);
     }
       where
@@ -171,8 +172,8 @@ pub spreading-done : {g ts : List ℕ} (e f : List ℕ) (p : ℕ) {todo v w left
     → w ≡ union (getD f p 0) todo → Spreading g ts (set f p w) p todo left (set e p v) e′ → left ≡ 0 → AtOnce g ts e f p todo e′ (set f p w)
 spreading-done {g} {ts} e f p {todo} {v} {w} {left} b hv hw k z =
     let none : (a : ℕ) → has left a ≡ false = λ a. ap (λ (x : ℕ). has x a) z ∙ has-none a in
-    let all : under ts todo left ≡ todo =
-    ext (under ts todo left) todo (λ j. has-under ts todo b left j ∙ ap (λ (x : Bool). has todo j && not x) (none (getD ts j 0)) ∙ and-true (has todo j)) in
+    let all : past ts todo left ≡ todo =
+    ext (past ts todo left) todo (λ j. has-past ts todo b left j ∙ ap (λ (x : Bool). has todo j && not x) (none (getD ts j 0)) ∙ and-true (has todo j)) in
     record {
       seen = ap (set f p) hw;
       pending = k .made ∙ ap₂ (λ (x y : ℕ). spread g ts (set f p w) p x (set e p y)) all hv;

@@ -27,7 +27,7 @@ third c = c .before .before .before
 abbrev fourth : tie.After-newline-arg → tie.After-spaced3
 fourth c = c .before .before .before
 
--- from where a count was taken: where the count before it was; and the peer
+-- from where a count was taken, where the count before it was; from the line's end, the last count; and the peer
 abbrev subs : tie.After-size64 → tie.After-size32
 subs c = second (c .before) .before
 

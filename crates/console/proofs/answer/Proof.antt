@@ -4,6 +4,13 @@ use Rattle.console.proofs.ConsoleLaws.{printed-as, state-part, table-pa
 use Rattle.console.proofs.answer.Statement.{statement}
 use Rattle.console.proofs.answer.Tie as tie
 
+-- from where the run was made: where the input was parted; and from the test before that, the start
+abbrev parted : tie.After-run → tie.After-least2
+parted c = c .before .before .before .before .before
+
+abbrev start : tie.Else1 → tie.Start
+start c = c .before .before .before
+
 refused-requires : tie.Need-refused-requires
 refused-requires c κs = search needs
 
@@ -55,10 +62,9 @@ same-length-2 c = search needs
 returns-2 : tie.Need-returns-2
 returns-2 c =
     let r = c .before .before in
-    let a = r .before .before .before .before in
-    let last = a .before in
+    let last = parted r in
     let middle = last .before in
-    let input = middle .before .before .before .before .args .input .now in
+    let input = start (middle .before) .args .input .now in
     printed-as (r .run .ensures)
     (flood-run input (middle .before .if1 .left)
     (state-part input (middle .least .ensures))

@@ -8,6 +8,10 @@ use Rattle.console.proofs.ConsoleLaws.{printed-as, printed-report, text
 use Rattle.console.proofs.run.Statement.{statement}
 use Rattle.console.proofs.run.Tie as tie
 
+-- from where the events are run: the test that the state was read
+abbrev begun : tie.After-deliveries → tie.Else1
+begun c = c .before .before .before .before .before
+
 begin-requires : tie.Need-begin-requires
 begin-requires c κs = search needs
 
@@ -25,7 +29,7 @@ returns c =
 
 run-events-requires : tie.Need-run-events-requires
 run-events-requires c κs =
-    let g = c .before .before .before .before .before .before .before .begin in
+    let g = begun c .before .before .begin in
     subst (λ (x : Begun). Rows (x .table)) (sym (g .ensures)) (begin-rows _ _ _)
 
 shown-requires : tie.Need-shown-requires
@@ -42,7 +46,7 @@ returns-2 c =
     let r = c .before .before in
     let s = r .before .before in
     let e = s .before .before .before in
-    let test = e .before .before .before .before .before .before in
+    let test = begun (e .before) in
     printed-report (r .report .ensures)
     (text-run _ _ _ (test .before .before .begin .ensures) (test .if1 .left) (e .run-events .result) (e .run-events .ensures) (s .shown .ensures))
 

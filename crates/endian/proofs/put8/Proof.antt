@@ -4,6 +4,10 @@ use Rattle.endian.specs.laws.Le.{putLe-halves}
 use Rattle.endian.proofs.put8.Statement.{statement}
 use Rattle.endian.proofs.put8.Tie as tie
 
+-- from where the high half is about to be written: where the low half was
+abbrev low : tie.After-put4-arg2 → tie.After-put4
+low c = c .before .before .before
+
 cast-put4 : tie.Need-cast-put4
 cast-put4 c = search needs
 
@@ -23,7 +27,7 @@ same-length : tie.Need-same-length
 same-length c = search needs
 
 returns : tie.Need-returns
-returns c = putLe-halves _ _ _ (c .before .before .before .before .before .before .put4 .ensures) (c .before .before .put42 .ensures)
+returns c = putLe-halves _ _ _ (low (c .before .before .before) .put4 .ensures) (c .before .before .put42 .ensures)
 
 pub put8-spec : {M : Type 1} → statement M
 put8-spec =

@@ -3,6 +3,10 @@ use borrow.Author.Needs.{needs}
 use Rattle.events.proofs.fields_at.Statement.{statement}
 use Rattle.events.proofs.fields_at.Tie as tie
 
+-- from where the fields' bytes are read: where the last of the words was
+abbrev last : tie.After-shared-slice-known4 → tie.After-le43
+last c = c .before .before .before
+
 add-le4 : tie.Need-add-le4
 add-le4 c = search needs
 
@@ -45,8 +49,7 @@ shared-slice-read-t16 c = search needs
 returns : tie.Need-returns
 unfolding fieldsAt
 returns c =
-    let last = c .before .before .before .before in
-    simp (last .before .before .le4 .ensures, last .before .le42 .ensures, last .le43 .ensures)
+    simp (last (c .before) .before .before .le4 .ensures, last (c .before) .before .le42 .ensures, last (c .before) .le43 .ensures)
 
 pub fields-at-spec : {M : Type 1} → statement M
 fields-at-spec =

@@ -5,6 +5,10 @@ use borrow.Author.Needs.{needs}
 use Rattle.events.proofs.write_at.Statement.{statement}
 use Rattle.events.proofs.write_at.Tie as tie
 
+-- from where the fields were put: there was room
+abbrev roomy : tie.After-put-fields → tie.Else1
+roomy c = c .before .before .before
+
 returns : tie.Need-returns
 unfolding writtenAt
 returns c = simp (le-ltb _ _ (c .if1 .taken)) (refl, refl)
@@ -23,9 +27,7 @@ same-length c = search needs
 
 returns-2 : tie.Need-returns-2
 unfolding writtenAt
-returns-2 c =
-    let begun = c .before .before .before .before .before in
-    simp (lt-ltb _ _ (begun .if1 .left)) (refl, (cc))
+returns-2 c = simp (lt-ltb _ _ (roomy (c .before .before) .if1 .left)) (refl, (cc))
 
 pub write-at-spec : {M : Type 1} → statement M
 write-at-spec =

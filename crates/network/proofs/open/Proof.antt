@@ -5,6 +5,16 @@ use Rattle.network.specs.laws.Opening.{net-is, unsound-is, opens-1, open
 use Rattle.network.proofs.open.Statement.{statement}
 use Rattle.network.proofs.open.Tie as tie
 
+-- from where the rules were asked: where all was read; from where the seen were read: the neighbours; and from there, who is present
+abbrev filled : tie.After-lowest-fault → tie.After-fill-known
+filled c = c .before .before .before .before .before .before .before .before
+
+abbrev linked : tie.After-longs2 → tie.After-words4
+linked c = c .before .before
+
+abbrev counted : tie.After-words4 → tie.After-ones
+counted c = c .before .before .before
+
 returns : tie.Need-returns
 returns c = opens-1 _ _ (c .if1 .taken)
 
@@ -37,21 +47,23 @@ lowest-fault-requires c κs = search needs
 
 returns-2 : tie.Need-returns-2
 returns-2 c =
-    let f = c .before in
-    let k = f .before .before .before .before .before .before .before .before in
-    let o = k .before .before .before .before .before .before .before in
+    let k = filled (c .before) in
+    let s = k .before .before in
+    let m = linked s in
+    let o = counted m in
     let w = o .before .before in
-    let n = net-is _ (w .words .ensures) (o .ones .ensures) (k .before .before .before .before .before .before .words2 .ensures) (k .before .before .before .before .before .words3 .ensures) (k .before .before .before .before .words4 .ensures) (k .before .before .before .longs .ensures) (k .before .before .longs2 .ensures) (k .fill-known .ensures) in
-    opens-5 _ _ _ (w .before .if1 .left) (unsound-is _ (w .words .ensures) n (f .lowest-fault .ensures bare)) (c .if2 .taken) n
+    let n = net-is _ (w .words .ensures) (o .ones .ensures) (m .before .before .words2 .ensures) (m .before .words3 .ensures) (m .words4 .ensures) (s .before .longs .ensures) (s .longs2 .ensures) (k .fill-known .ensures) in
+    opens-5 _ _ _ (w .before .if1 .left) (unsound-is _ (w .words .ensures) n (c .before .lowest-fault .ensures bare)) (c .if2 .taken) n
 
 returns-3 : tie.Need-returns-3
 returns-3 c =
-    let f = c .before in
-    let k = f .before .before .before .before .before .before .before .before in
-    let o = k .before .before .before .before .before .before .before in
+    let k = filled (c .before) in
+    let s = k .before .before in
+    let m = linked s in
+    let o = counted m in
     let w = o .before .before in
-    let n = net-is _ (w .words .ensures) (o .ones .ensures) (k .before .before .before .before .before .before .words2 .ensures) (k .before .before .before .before .before .words3 .ensures) (k .before .before .before .before .words4 .ensures) (k .before .before .before .longs .ensures) (k .before .before .longs2 .ensures) (k .fill-known .ensures) in
-    opens-0 _ _ _ (w .before .if1 .left) (unsound-is _ (w .words .ensures) n (f .lowest-fault .ensures bare)) (c .if2 .left) n
+    let n = net-is _ (w .words .ensures) (o .ones .ensures) (m .before .before .words2 .ensures) (m .before .words3 .ensures) (m .words4 .ensures) (s .before .longs .ensures) (s .longs2 .ensures) (k .fill-known .ensures) in
+    opens-0 _ _ _ (w .before .if1 .left) (unsound-is _ (w .words .ensures) n (c .before .lowest-fault .ensures bare)) (c .if2 .left) n
 
 pub open-spec : {M : Type 1} → statement M
 open-spec =

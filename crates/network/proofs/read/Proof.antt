@@ -7,12 +7,15 @@ use Rattle.network.specs.laws.Opening.{unsound-is, open-1, open-5, open-
 use Rattle.network.proofs.read.Statement.{statement}
 use Rattle.network.proofs.read.Tie as tie
 
--- what had been read by then
+-- what had been read by then; and the start, from where the heads were read
 abbrev loaded : tie.After-lowest-fault → tie.After-network
 loaded c = c .before .before .before .before .before .before .before .before .before
 
+abbrev start : tie.After-words → tie.Start
+start c = c .before .before .before
+
 -- what is found is the lowest unsound record
-found : (c : tie.After-lowest-fault) → c .lowest-fault .result ≡ unsoundAt (loaded c .before .before .before .before .args .state .now)
+found : (c : tie.After-lowest-fault) → c .lowest-fault .result ≡ unsoundAt (start (loaded c .before) .args .state .now)
 found c =
     let n = loaded c in
     unsound-is _ (n .before .words .ensures) (n .network .ensures) (c .lowest-fault .ensures bare)

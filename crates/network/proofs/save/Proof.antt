@@ -17,6 +17,13 @@ Inv-loop present pubs subs neighbours pending seen known state₀ i₀ state i =
 abbrev μ-loop : tie.MeasureT-loop
 μ-loop present pubs subs neighbours pending seen known state₀ i₀ state i = 32 - i
 
+-- from where a record's row is about to be written: where its words were; and from there, where its head was made
+abbrev worded : tie.After-row-arg Inv-loop μ-loop → tie.After-words Inv-loop μ-loop
+worded c = c .before .before .before
+
+abbrev headed : tie.After-words Inv-loop μ-loop → tie.After-head Inv-loop μ-loop
+headed c = c .before .before .before .before .before .before .before
+
 loop-holds : tie.Need-loop-holds Inv-loop μ-loop
 loop-holds c = (search needs, filled-none 5120 _ _ (c .before .pre))
 
@@ -74,8 +81,8 @@ loop-less c = search needs
 loop-again : tie.Need-loop-again Inv-loop μ-loop
 loop-again c =
     let r = c .before .before in
-    let w = r .before .before .before .before .before in
-    let h = w .before .before .before .before .before .before .before in
+    let w = worded (r .before .before) in
+    let h = headed w in
     let l = h .before .before .loop in
     (search needs, filled-record _ (l .i) (search needs) (l .inv .1) (h .head .ensures) (w .words .ensures) (r .before .row-of .ensures) (r .row .ensures))
 

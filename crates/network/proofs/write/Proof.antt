@@ -12,6 +12,10 @@ use Rattle.network.proofs.write.Tie as tie
 abbrev headed : tie.After-lowest-fault → tie.After-heads
 headed c = c .before .before .before .before .before .before .before .before .before
 
+-- from where the network was written: it was found sound
+abbrev sound : tie.After-put → tie.Else2
+sound c = c .before .before
+
 -- what is found is the lowest unsound record
 found : (c : tie.After-lowest-fault) → c .lowest-fault .result ≡ lowestFault (headed c .before .before .before .args .t1)
 found c = c .lowest-fault .ensures bare ∙ lowest-tab _ _ (headed c .heads .ensures)
@@ -36,7 +40,7 @@ same-length c = search needs
 
 returns-3 : tie.Need-returns-3
 returns-3 c =
-    let e = c .before .before .before .before in
+    let e = sound (c .before .before) in
     write-0 _ _ (headed (e .before) .before .if1 .left) (found (e .before)) (e .if2 .left) (c .before .before .put .ensures)
 
 pub write-spec : {M : Type 1} → statement M

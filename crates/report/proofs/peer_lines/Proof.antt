@@ -58,8 +58,9 @@ loop-less c = search needs
 loop-again : tie.Need-loop-again Inv-loop μ-loop
 unfolding peerLine
 loop-again c =
-    let l = c .before .before .before .loop in
-    let n = c .before .before .before .before .before .args .t3 in
+    let h = c .before .before .before in
+    let l = h .loop in
+    let n = h .before .before .args .t3 in
     let f = c .before .has32 .ensures in
     ⊎-elim
     (λ w. (omega (arith, w .5 .ensures .1, w .5 .kept .0, ap length (w .8), w .9), rw (w .8, w .9) (lines-more (l .p) n (sym f ∙ w .0 .taken) (l .inv .1) (w .5 .ensures .0))))

@@ -5,6 +5,16 @@ use Rattle.report.proofs.ReportLaws.{reported-none, reported-first, rep
 use Rattle.report.proofs.report.Statement.{statement}
 use Rattle.report.proofs.report.Tie as tie
 
+-- from where the first line was written: the test that the buffer has room; and from the peers' lines, the test that they are shown
+abbrev roomy : tie.After-first-line → tie.Else1
+roomy c = c .before .before
+
+abbrev shown : tie.After-peer-lines → tie.Else2
+shown c = c .before .before
+
+abbrev first : tie.After-slice-known2 → tie.After-first-line
+first c = c .before .before
+
 returns : tie.Need-returns
 returns c = reported-none _ _ _ _ _ _ (c .if1 .taken)
 
@@ -15,7 +25,7 @@ same-length : tie.Need-same-length
 same-length c = search needs
 
 returns-2 : tie.Need-returns-2
-returns-2 c = reported-first _ _ _ _ _ (c .before .before .before .before .before .if1 .left) (not-true _ (c .if2 .taken)) (c .before .before .before .first-line .ensures)
+returns-2 c = reported-first _ _ _ _ _ (roomy (first (c .before)) .if1 .left) (not-true _ (c .if2 .taken)) (first (c .before) .first-line .ensures)
 
 peer-lines-requires : tie.Need-peer-lines-requires
 peer-lines-requires c κs = search needs
@@ -25,8 +35,9 @@ same-length-2 c = search needs
 
 returns-3 : tie.Need-returns-3
 returns-3 c =
-    let first = c .before .before .before .before .before .before .before in
-    reported-all _ _ _ _ _ (first .before .before .if1 .left) (not-false _ (c .before .before .before .before .if2 .left)) (first .first-line .ensures .0) (c .before .before .peer-lines .ensures)
+    let l = c .before .before in
+    let f = first (shown l .before) in
+    reported-all _ _ _ _ _ (roomy f .if1 .left) (not-false _ (shown l .if2 .left)) (f .first-line .ensures .0) (l .peer-lines .ensures)
 
 pub report-spec : {M : Type 1} → statement M
 report-spec =

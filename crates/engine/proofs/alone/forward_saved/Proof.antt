@@ -7,6 +7,14 @@ use Rattle.engine.specs.laws.ForwardAlone.{forward-peer, forward-message
 use Rattle.engine.proofs.alone.forward_saved.Statement.{statement}
 use Rattle.engine.proofs.alone.forward_saved.Tie as tie
 
+-- from where the message is forwarded: the second test, with the first just before it
+abbrev second : tie.After-forward-arg2 → tie.Else2
+second c = c .before .before
+
+-- from where the state is written: the forward was accepted
+abbrev accepted : tie.After-save-arg3 → tie.Else3
+accepted c = c .before .before .before
+
 forwarded-requires : tie.Need-forwarded-requires
 forwarded-requires c κs = search needs
 
@@ -20,9 +28,7 @@ returns-2 : tie.Need-returns-2
 returns-2 c = λ os. forward-message _ _ _ _ _ (c .forwarded2 .ensures) (c .before .before .if1 .left) (c .before .if2 .taken)
 
 forward-requires : tie.Need-forward-requires
-forward-requires c κs =
-    let start = c .before .before .before .before .before in
-    (omega (arith, c .before .before .before .if1 .left), omega (arith, c .before .before .if2 .left), start .pre .1 _)
+forward-requires c κs = (omega (arith, second c .before .if1 .left), omega (arith, second c .if2 .left), second c .before .before .before .pre .1 _)
 
 forwarded-requires-3 : tie.Need-forwarded-requires-3
 forwarded-requires-3 c κs = search needs
@@ -30,8 +36,7 @@ forwarded-requires-3 c κs = search needs
 returns-3 : tie.Need-returns-3
 returns-3 c =
     let sent = c .before .before .before in
-    let second = sent .before .before .before in
-    λ os. forward-refused _ _ _ _ _ (c .forwarded3 .ensures) (second .before .if1 .left) (second .if2 .left) (sent .forward .ensures (withPubs (withSubs (withNeighbours bare _) _) _) os .answer) (c .before .if3 .taken)
+    λ os. forward-refused _ _ _ _ _ (c .forwarded3 .ensures) (second (sent .before) .before .if1 .left) (second (sent .before) .if2 .left) (sent .forward .ensures (withPubs (withSubs (withNeighbours bare _) _) _) os .answer) (c .before .if3 .taken)
 
 save-requires : tie.Need-save-requires
 save-requires c κs = search needs
@@ -44,12 +49,12 @@ same-length c = search needs
 
 returns-4 : tie.Need-returns-4
 returns-4 c =
-    let accepted = c .before .before .before .before .before .before .before in
-    let sent = accepted .before .before in
-    let second = sent .before .before .before in
+    let s = c .before .before .before in
+    let e = accepted (s .before) in
+    let sent = e .before .before in
     λ os.
     let done = sent .forward .ensures (withPubs (withSubs (withNeighbours bare _) _) _) os in
-    forward-done _ _ _ _ _ (c .forwarded4 .ensures) (second .before .if1 .left) (second .if2 .left) (done .answer) (done .state) (accepted .if3 .left) (c .before .before .before .save .ensures)
+    forward-done _ _ _ _ _ (c .forwarded4 .ensures) (second (sent .before) .before .if1 .left) (second (sent .before) .if2 .left) (done .answer) (done .state) (e .if3 .left) (s .save .ensures)
 
 pub forward-saved-spec : {M : Type 1} → statement M
 forward-saved-spec =

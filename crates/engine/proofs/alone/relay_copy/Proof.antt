@@ -5,6 +5,13 @@ use Rattle.engine.proofs.Lent.{looked-is, looked-net}
 use Rattle.engine.proofs.alone.relay_copy.Statement.{statement}
 use Rattle.engine.proofs.alone.relay_copy.Tie as tie
 
+-- from the test that the state was read: where it was; and from where the copy is written, the test of its length
+abbrev opened : tie.Else1 → tie.After-open
+opened c = c .before .before
+
+abbrev long : tie.After-save → tie.Else2
+long c = c .before .before .before .before .before .before .before .before
+
 open-requires : tie.Need-open-requires
 open-requires c κs = search needs
 
@@ -19,8 +26,7 @@ answer-requires-2 c κs = search needs
 
 returns-2 : tie.Need-returns-2
 returns-2 c =
-    let at = c .before .before .before .before in
-    answered-as (c .answer2 .ensures) (copy-short _ _ (looked-is _ (at .«open» .ensures)) (c .before .before .if1 .left) (c .before .if2 .taken))
+    answered-as (c .answer2 .ensures) (copy-short _ _ (looked-is _ (opened (c .before .before) .«open» .ensures)) (c .before .before .if1 .left) (c .before .if2 .taken))
 
 save-requires : tie.Need-save-requires
 save-requires c κs = search needs
@@ -33,10 +39,10 @@ same-length c = search needs
 
 returns-3 : tie.Need-returns-3
 returns-3 c =
-    let long = c .before .before .before .before .before .before .before .before .before .before .before in
-    let z = long .before .if1 .left in
-    let at = long .before .before .before in
-    answered-as (c .answer3 .ensures) (copy-done _ _ _ (looked-net _ (at .«open» .ensures) z) z (long .if2 .left) (c .before .before .before .save .ensures))
+    let s = c .before .before .before in
+    let e = long s .before in
+    let z = e .if1 .left in
+    answered-as (c .answer3 .ensures) (copy-done _ _ _ (looked-net _ (opened e .«open» .ensures) z) z (long s .if2 .left) (s .save .ensures))
 
 pub relay-copy-spec : {M : Type 1} → statement M
 relay-copy-spec =

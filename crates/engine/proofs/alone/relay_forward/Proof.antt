@@ -5,6 +5,13 @@ use Rattle.engine.proofs.Lent.{started, started-rows, started-long}
 use Rattle.engine.proofs.alone.relay_forward.Statement.{statement}
 use Rattle.engine.proofs.alone.relay_forward.Tie as tie
 
+-- from where the message is forwarded: the test that the state was read, and where it was
+abbrev read : tie.After-topics2 → tie.Else1
+read c = c .before .before .before .before .before .before .before .before .before .before
+
+abbrev begun : tie.After-topics2 → tie.After-start
+begun c = read c .before .before
+
 start-requires : tie.Need-start-requires
 start-requires c κs = search needs
 
@@ -18,20 +25,20 @@ returns : tie.Need-returns
 returns c = forward-begun _ _ _ _ (c .before .before .before .start .ensures) (c .forwarded .ensures) (c .before .if1 .taken)
 
 forward-saved-requires : tie.Need-forward-saved-requires
-forward-saved-requires c κs =
-    let read = c .before .before .before .before .before .before .before .before .before .before in
-    let at = read .before .before in
-    (started-long _ _ _ (at .start .result) _ (at .start .ensures) (read .if1 .left), started-rows _ _ _ (at .start .result) _ (at .start .ensures) .topics-fit)
+forward-saved-requires c κs = (
+  started-long _ _ _ (begun c .start .result) _ (begun c .start .ensures) (read c .if1 .left),
+  started-rows _ _ _ (begun c .start .result) _ (begun c .start .ensures) .topics-fit,
+)
 
 same-length-2 : tie.Need-same-length-2
 same-length-2 c = search needs
 
 returns-2 : tie.Need-returns-2
 returns-2 c =
-    let read = c .before .before .before .before .before .before .before .before .before .before .before .before .before in
-    let at = read .before .before in
-    let z = read .if1 .left in
-    forward-read _ _ _ _ (started _ _ _ (at .start .result) _ (at .start .ensures) z) z (c .before .before .forward-saved .ensures (at .start .result .table .origins))
+    let f = c .before .before in
+    let at = begun (f .before) in
+    let z = read (f .before) .if1 .left in
+    forward-read _ _ _ _ (started _ _ _ (at .start .result) _ (at .start .ensures) z) z (f .forward-saved .ensures (at .start .result .table .origins))
 
 pub relay-forward-spec : {M : Type 1} → statement M
 relay-forward-spec =

@@ -5,6 +5,21 @@ use Rattle.engine.proofs.Lent.{started, started-rows, started-long}
 use Rattle.engine.proofs.draining.relay_drain.Statement.{statement}
 use Rattle.engine.proofs.draining.relay_drain.Tie as tie
 
+-- from where the drain is made: the test that the state was read, and where it was
+abbrev read : tie.After-topics2 → tie.Else1
+read c = c .before .before .before .before .before .before
+
+abbrev begun : tie.After-topics2 → tie.After-start
+begun c = read c .before .before
+
+-- from where the state is written: where the drain was made
+abbrev drained : tie.After-save-arg → tie.After-drain-all
+drained c = c .before .before .before .before .before .before .before
+
+-- from where the reading begins: the bytes that are read
+abbrev bytes : tie.After-known → tie.After-slice-known
+bytes c = c .before .before .before .before .before .before .before .before
+
 start-requires : tie.Need-start-requires
 start-requires c κs = search needs
 
@@ -18,13 +33,11 @@ returns : tie.Need-returns
 returns c = drain-refused _ _ _ (c .before .before .before .start .ensures) (c .before .if1 .taken) (c .refused .ensures)
 
 drain-all-requires : tie.Need-drain-all-requires
-drain-all-requires c κs = let at = c .before .before .before .before .before .before .before .before in started-rows _ _ _ (at .start .result) _ (at .start .ensures) .topics-fit
+drain-all-requires c κs = started-rows _ _ _ (begun c .start .result) _ (begun c .start .ensures) .topics-fit
 
 save-requires : tie.Need-save-requires
 save-requires c κs =
-    let read = c .before .before .before .before .before .before .before .before .before .before .before .before .before .before in
-    let at = read .before .before in
-    started-long _ _ _ (at .start .result) _ (at .start .ensures) (read .if1 .left)
+    started-long _ _ _ (begun (drained c .before) .start .result) _ (begun (drained c .before) .start .ensures) (read (drained c .before) .if1 .left)
 
 done-requires : tie.Need-done-requires
 done-requires c κs = search needs
@@ -34,13 +47,12 @@ same-length-2 c = search needs
 
 returns-2 : tie.Need-returns-2
 returns-2 c =
-    let drained = c .before .before .before .before .before .before .before .before .before .before .before in
-    let read = drained .before .before .before .before .before .before .before in
-    let at = read .before .before in
-    let bytes = at .before .before .before .before .before .before .before .before .before in
-    let z = read .if1 .left in
-    drain-done _ _ _ _ (λ i. bytes .slice-known .given i .fits) (started _ _ _ (at .start .result) _ (at .start .ensures) z) z (drained .drain-all .ensures)
-    (c .before .before .before .save .ensures) (c .done .ensures)
+    let s = c .before .before .before in
+    let d = drained (s .before) in
+    let at = begun (d .before) in
+    let z = read (d .before) .if1 .left in
+    drain-done _ _ _ _ (λ i. bytes (at .before) .slice-known .given i .fits) (started _ _ _ (at .start .result) _ (at .start .ensures) z) z (d .drain-all .ensures)
+    (s .save .ensures) (c .done .ensures)
 
 pub relay-drain-spec : {M : Type 1} → statement M
 relay-drain-spec =

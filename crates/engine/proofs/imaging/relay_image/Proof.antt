@@ -7,6 +7,13 @@ use Rattle.engine.proofs.Lent.{looked-is, looked-net}
 use Rattle.engine.proofs.imaging.relay_image.Statement.{statement}
 use Rattle.engine.proofs.imaging.relay_image.Tie as tie
 
+-- from the test that the state was read: where it was; and from where the image is written, where it was made
+abbrev opened : tie.Else1 → tie.After-open
+opened c = c .before .before
+
+abbrev made : tie.After-save → tie.After-settled
+made c = c .before .before .before .before .before .before .before .before
+
 open-requires : tie.Need-open-requires
 open-requires c κs = search needs
 
@@ -21,8 +28,7 @@ answer-requires-2 c κs = search needs
 
 returns-2 : tie.Need-returns-2
 returns-2 c =
-    let at = c .before .before .before .before in
-    answered-as (c .answer2 .ensures) (image-short _ _ (looked-is _ (at .«open» .ensures)) (c .before .before .if1 .left) (c .before .if2 .taken))
+    answered-as (c .answer2 .ensures) (image-short _ _ (looked-is _ (opened (c .before .before) .«open» .ensures)) (c .before .before .if1 .left) (c .before .if2 .taken))
 
 underway-requires : tie.Need-underway-requires
 underway-requires c κs = search needs
@@ -41,12 +47,11 @@ same-length c = search needs
 
 returns-3 : tie.Need-returns-3
 returns-3 c =
-    let made = c .before .before .before .before .before .before .before .before .before .before .before in
-    let long = made .before .before in
+    let s = c .before .before .before in
+    let long = made s .before .before in
     let z = long .before .if1 .left in
-    let at = long .before .before .before in
     answered-as (c .answer3 .ensures)
-    (image-done _ _ _ (looked-net _ (at .«open» .ensures) z) z (long .if2 .left) (imageNet-made _ (made .before .underway .ensures) (made .settled .ensures)) (c .before .before .before .save .ensures))
+    (image-done _ _ _ (looked-net _ (opened (long .before) .«open» .ensures) z) z (long .if2 .left) (imageNet-made _ (made s .before .underway .ensures) (made s .settled .ensures)) (s .save .ensures))
 
 pub relay-image-spec : {M : Type 1} → statement M
 relay-image-spec =

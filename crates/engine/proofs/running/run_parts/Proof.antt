@@ -23,16 +23,22 @@ abbrev μ-loop : tie.MeasureT-loop
 μ-loop present₀ pubs₀ subs₀ neighbours₀ pending₀ seen₀ known₀ topics origins events produced₀ forwards₀ deliveries₀ count place₀ present pubs subs neighbours pending seen known produced forwards deliveries place =
     count - place
 
--- from the place after the event was taken: the loop's head; and from there the start
+-- from the place after the event was taken: where the loop's test held, and the loop's head; and from there the start
+abbrev inside : tie.After-event-at Inv-loop μ-loop → tie.In-loop Inv-loop μ-loop
+inside c = c .before .before .before .before .before .before .before .before
+
 abbrev head : tie.After-event-at Inv-loop μ-loop → tie.At-loop Inv-loop μ-loop
-head c = c .before .before .before .before .before .before .before .before .before
+head c = inside c .before
 
 abbrev start : tie.At-loop Inv-loop μ-loop → tie.Start Inv-loop μ-loop
 start h = h .before .before
 
--- the place where the loop's test held
-abbrev inside : tie.After-event-at Inv-loop μ-loop → tie.In-loop Inv-loop μ-loop
-inside c = c .before .before .before .before .before .before .before .before
+-- from where the turn is counted: it was accepted, and where it was made
+abbrev accepted : tie.After-count-in-arg3 Inv-loop μ-loop → tie.Else1 Inv-loop μ-loop
+accepted c = c .before .before .before
+
+abbrev turned : tie.After-count-in-arg3 Inv-loop μ-loop → tie.After-turn Inv-loop μ-loop
+turned c = accepted c .before
 
 -- the event bytes are fewer than 2 ^ 63
 small : (h : tie.At-loop Inv-loop μ-loop) → 32 * (length (start h .args .events .now) / 16) < 2 ^ 64
@@ -60,23 +66,23 @@ returns c =
 
 count-in-requires : tie.Need-count-in-requires Inv-loop μ-loop
 count-in-requires c κs =
-    let u = c .before .before .before .before in
+    let u = turned c in
     let e = u .before in
     going-room _ _ _ (head e .loop .inv) (inside e .loop-test .taken) (small (head e)) _ (u .turn .ensures .1 .1)
 
 add-place : tie.Need-add-place Inv-loop μ-loop
 add-place c =
-    let e = c .before .before .before .before .before .before in
+    let e = turned (c .before) .before in
     record { fits = omega (arith, inside e .loop-test .taken, small (head e)) }
 
 loop-less : tie.Need-loop-less Inv-loop μ-loop
-loop-less c = let e = c .before .before .before .before .before .before in omega (arith, inside e .loop-test .taken)
+loop-less c = let e = turned (c .before) .before in omega (arith, inside e .loop-test .taken)
 
 loop-again : tie.Need-loop-again Inv-loop μ-loop
 loop-again c =
-    let u = c .before .before .before .before .before in
+    let u = turned (c .before) in
     let e = u .before in
-    ran-on _ _ _ (head e .loop .inv) (inside e .loop-test .taken) (read-is _ _ _ (e .event-at .ensures)) _ _ (u .turn .ensures) (c .before .before .before .before .if1 .left) _ (c .count-in .ensures)
+    ran-on _ _ _ (head e .loop .inv) (inside e .loop-test .taken) (read-is _ _ _ (e .event-at .ensures)) _ _ (u .turn .ensures) (accepted (c .before) .if1 .left) _ (c .count-in .ensures)
 
 answer-requires-2 : tie.Need-answer-requires-2 Inv-loop μ-loop
 answer-requires-2 c κs = search needs

@@ -4,8 +4,15 @@ use Rattle.engine.proofs.RunEnds.{ends-written}
 use Rattle.engine.proofs.running.run_saved.Statement.{statement}
 use Rattle.engine.proofs.running.run_saved.Tie as tie
 
+-- from where the run is made: the start; and from where the state is written, where the run was made
+abbrev start : tie.After-run-parts-arg9 → tie.Start
+start c = c .before .before .before .before .before .before .before .before .before .before .before .before
+
+abbrev ran : tie.After-save → tie.After-run-parts
+ran c = c .before .before .before .before .before .before .before .before
+
 run-parts-requires : tie.Need-run-parts-requires
-run-parts-requires c κs = let start = c .before .before .before .before .before .before .before .before .before .before .before .before in start .pre .1
+run-parts-requires c κs = start c .pre .1
 
 save-requires : tie.Need-save-requires
 save-requires c κs = search needs
@@ -14,7 +21,7 @@ same-length : tie.Need-same-length
 same-length c = search needs
 
 returns : tie.Need-returns
-returns c = let ran = c .before .before .before .before .before .before .before .before .before .before in ends-written (ran .run-parts .ensures) (c .before .before .save .ensures)
+returns c = ends-written (ran (c .before .before) .run-parts .ensures) (c .before .before .save .ensures)
 
 pub run-saved-spec : {M : Type 1} → statement M
 run-saved-spec =

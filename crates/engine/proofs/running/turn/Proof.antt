@@ -27,13 +27,15 @@ not-taken k e h = first (subst (λ (r : Read). OneOf (1 ∷ 2 ∷ 3 ∷ []) (tag
     first (inr (inl z)) = omega arith
     first (inr (inr z)) = omega arith
 
+-- from where the step is made: where the event was taken, two places after the start
+abbrev read : tie.After-step-arg7 → tie.After-read
+read c = c .before .before .before .before .before .before .before .before
+
 enum-known-read : tie.Need-enum-known-read
 enum-known-read c = search needs
 
 step-requires : tie.Need-step-requires
-step-requires c κs =
-    let d = c .before .before .before .before .before .before .before .before in
-    (taken-fits (d .read .given .1) (d .before .before .pre .0), d .before .before .pre .1)
+step-requires c κs = (taken-fits (read c .read .given .1) (read c .before .before .pre .0), read c .before .before .pre .1)
 
 answered-requires : tie.Need-answered-requires
 answered-requires c κs = search needs
@@ -42,10 +44,7 @@ refused-requires : tie.Need-refused-requires
 refused-requires c κs = search needs
 
 returns : tie.Need-returns
-returns c =
-    let d = c .before .before .before .before .before .before .before .before .before in
-    let s = c .step .ensures in
-    turn-taken _ _ _ _ (d .read .given .1) (s .0 bare, (s .1 .0 bare, s .1 .1))
+returns c = let s = c .step .ensures in turn-taken _ _ _ _ (read (c .before) .read .given .1) (s .0 bare, (s .1 .0 bare, s .1 .1))
 
 returns-2 : tie.Need-returns-2
 returns-2 c =

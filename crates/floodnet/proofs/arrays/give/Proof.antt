@@ -14,6 +14,10 @@ Inv-loop pending₀ r i left₀ pending left = Picking r left has (puts (only i)
 abbrev μ-loop : tie.MeasureT-loop
 μ-loop pending₀ r i left₀ pending left = left
 
+-- from where a peer was struck from those left: where it was found
+abbrev found : tie.After-rest32 Inv-loop μ-loop → tie.After-lowest32 Inv-loop μ-loop
+found c = c .before .before .before
+
 cast-i : tie.Need-cast-i Inv-loop μ-loop
 cast-i c = search needs
 
@@ -50,7 +54,7 @@ loop-less c = search needs
 loop-again : tie.Need-loop-again Inv-loop μ-loop
 unfolding puts
 loop-again c =
-    marking _ (c .before .before .before .before .before .loop .inv) (search needs) (c .before .before .before .lowest32 .ensures .0) (c .rest32 .ensures .0)
+    marking _ (found c .before .before .loop .inv) (search needs) (found c .lowest32 .ensures .0) (c .rest32 .ensures .0)
     (c .before .with64 .ensures)
 
 returns : tie.Need-returns Inv-loop μ-loop

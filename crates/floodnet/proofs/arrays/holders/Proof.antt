@@ -58,10 +58,12 @@ loop-less c = search needs
 
 loop-again : tie.Need-loop-again Inv-loop μ-loop
 loop-again c =
-    let v = c .before .before .before .before .before .before .before .before .loop .inv in
-    let q = c .before .before .before .before .before .before .lowest32 .ensures .0 in
+    let united = c .before .before .before in
+    let found = united .before .before .before in
+    let v = found .before .before .loop .inv in
+    let q = found .lowest32 .ensures .0 in
     let l = c .rest32 .ensures .0 in
-    let u = c .before .before .before .union64 .ensures in
+    let u = united .union64 .ensures in
     let h = c .before .before .has64 .ensures in
     ⊎-elim
     (λ w. visit-yes v (search needs) q l (holding-is _ _ _ _ _ u (sym (w .0 .taken) ∙ h)) (w .2 ∙ w .1 .ensures))

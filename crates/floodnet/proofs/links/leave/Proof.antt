@@ -6,6 +6,10 @@ use Rattle.floodnet.proofs.CodeLinks.{left-law}
 use Rattle.floodnet.proofs.links.leave.Statement.{statement}
 use Rattle.floodnet.proofs.links.leave.Tie as tie
 
+-- from where the peer was cleared: where its links were taken down
+abbrev unlinked : tie.After-clear → tie.After-link-down
+unlinked c = c .before .before .before .before .before .before .before .before
+
 cast-who : tie.Need-cast-who
 cast-who c = search needs
 
@@ -22,7 +26,7 @@ clear-requires : tie.Need-clear-requires
 clear-requires c κs = search needs
 
 returns : tie.Need-returns
-returns c = λ n. left-law _ _ _ _ (c .before .before .before .before .before .before .before .before .link-down .ensures (withAll n _ _ _ [] _ _ [])) (c .clear .ensures n)
+returns c = λ n. left-law _ _ _ _ (unlinked c .link-down .ensures (withAll n _ _ _ [] _ _ [])) (c .clear .ensures n)
 
 pub leave-spec : {M : Type 1} → statement M
 leave-spec =

@@ -4,6 +4,10 @@ use Rattle.floodnet.proofs.CodeLinks.{linkDown-law}
 use Rattle.floodnet.proofs.links.link_down.Statement.{statement}
 use Rattle.floodnet.proofs.links.link_down.Tie as tie
 
+-- from where the rows were dropped: where the peer was unmarked
+abbrev unmarked : tie.After-drop-all → tie.After-unmark
+unmarked c = c .before .before
+
 cast-i : tie.Need-cast-i
 cast-i c = search needs
 
@@ -32,7 +36,7 @@ row-minus-requires : tie.Need-row-minus-requires
 row-minus-requires c κs = search needs
 
 returns : tie.Need-returns
-returns c = λ n. linkDown-law n _ _ _ _ _ _ _ _ (c .before .before .before .before .before .before .minus32 .ensures) (c .before .before .before .before .unmark .ensures) (c .before .before .drop-all .ensures) (c .row-minus .ensures)
+returns c = λ n. linkDown-law n _ _ _ _ _ _ _ _ (unmarked (c .before .before) .before .before .minus32 .ensures) (unmarked (c .before .before) .unmark .ensures) (c .before .before .drop-all .ensures) (c .row-minus .ensures)
 
 pub link-down-spec : {M : Type 1} → statement M
 link-down-spec =

@@ -4,6 +4,10 @@ use Rattle.floodnet.proofs.CodeLinks.{linkUp-law}
 use Rattle.floodnet.proofs.links.link_up.Statement.{statement}
 use Rattle.floodnet.proofs.links.link_up.Tie as tie
 
+-- from where the topics were noted: where the peer was marked
+abbrev marked : tie.After-note-all → tie.After-mark
+marked c = c .before .before .before
+
 cast-i : tie.Need-cast-i
 cast-i c = search needs
 
@@ -38,7 +42,7 @@ learn-requires : tie.Need-learn-requires
 learn-requires c κs = search needs
 
 returns : tie.Need-returns
-returns c = λ n. linkUp-law n _ _ _ _ _ _ _ _ _ (c .before .before .before .before .before .before .before .union32 .ensures) (c .before .before .before .before .before .mark .ensures) (c .before .before .note-all .ensures) (c .learn .ensures)
+returns c = λ n. linkUp-law n _ _ _ _ _ _ _ _ _ (marked (c .before .before) .before .before .union32 .ensures) (marked (c .before .before) .mark .ensures) (c .before .before .note-all .ensures) (c .learn .ensures)
 
 pub link-up-spec : {M : Type 1} → statement M
 link-up-spec =

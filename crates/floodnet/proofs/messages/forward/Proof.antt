@@ -7,6 +7,10 @@ use Rattle.floodnet.proofs.CodeForward.{receivers-law, forwarded-law}
 use Rattle.floodnet.proofs.messages.forward.Statement.{statement}
 use Rattle.floodnet.proofs.messages.forward.Tie as tie
 
+-- from where the holders are asked for: where the topic's spot was found
+abbrev spotted : tie.After-holders-arg2 → tie.After-spot
+spotted c = c .before .before .before
+
 cast-i : tie.Need-cast-i
 cast-i c = search needs
 
@@ -68,7 +72,7 @@ returns : tie.Need-returns
 returns c =
     let r = c .before .before in
     let h = r .before in
-    let k = h .before .before .before .before in
+    let k = spotted (h .before) in
     let t = k .before in
     let w = t .before in
     let v = w .before .before in (

@@ -6,6 +6,10 @@ use Rattle.floodnet.proofs.CodeRefusals.{need-fails, need-holds, test-f
 use Rattle.floodnet.proofs.refusals.of_forward.Statement.{statement}
 use Rattle.floodnet.proofs.refusals.of_forward.Tie as tie
 
+-- from where the second test is made: the first one held
+abbrev present : tie.After-struct-known3 → tie.Else1
+present c = c .before .before .before
+
 cast-has32 : tie.Need-cast-has32
 cast-has32 c = search needs
 
@@ -33,11 +37,11 @@ has64-requires c κs = search needs
 
 returns-2 : tie.Need-returns-2
 unfolding refusalForward
-returns-2 c = λ n. need-holds _ _ _ (test-holds (c .before .before .before .before .before .before .has32 .ensures) (c .before .before .before .before .before .if1 .left)) (need-fails _ _ _ (test-fails (c .before .has64 .ensures) (c .if2 .taken)))
+returns-2 c = λ n. need-holds _ _ _ (test-holds (present (c .before .before) .before .has32 .ensures) (present (c .before .before) .if1 .left)) (need-fails _ _ _ (test-fails (c .before .has64 .ensures) (c .if2 .taken)))
 
 returns-3 : tie.Need-returns-3
 unfolding refusalForward
-returns-3 c = λ n. need-holds _ _ _ (test-holds (c .before .before .before .before .before .before .has32 .ensures) (c .before .before .before .before .before .if1 .left)) (need-holds _ _ _ (test-holds (c .before .has64 .ensures) (c .if2 .left)) (refl))
+returns-3 c = λ n. need-holds _ _ _ (test-holds (present (c .before .before) .before .has32 .ensures) (present (c .before .before) .if1 .left)) (need-holds _ _ _ (test-holds (c .before .has64 .ensures) (c .if2 .left)) (refl))
 
 pub of-forward-spec : {M : Type 1} → statement M
 of-forward-spec =

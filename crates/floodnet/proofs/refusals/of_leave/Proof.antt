@@ -6,6 +6,10 @@ use Rattle.floodnet.proofs.CodeRefusals.{need-fails, need-holds, test-f
 use Rattle.floodnet.proofs.refusals.of_leave.Statement.{statement}
 use Rattle.floodnet.proofs.refusals.of_leave.Tie as tie
 
+-- from the second test: the first one held
+abbrev present : tie.After-if22 → tie.Else1
+present c = c .before .before
+
 cast-has32 : tie.Need-cast-has32
 cast-has32 c = search needs
 
@@ -27,11 +31,11 @@ element-copy-out-if2 c = search needs
 
 returns-2 : tie.Need-returns-2
 unfolding refusalLeave
-returns-2 c = λ n. need-holds _ _ _ (test-holds (c .before .before .before .before .has32 .ensures) (c .before .before .before .if1 .left)) (need-fails _ _ _ (some-fails refl (c .if2 .taken)))
+returns-2 c = λ n. need-holds _ _ _ (test-holds (present (c .before) .before .has32 .ensures) (present (c .before) .if1 .left)) (need-fails _ _ _ (some-fails refl (c .if2 .taken)))
 
 returns-3 : tie.Need-returns-3
 unfolding refusalLeave
-returns-3 c = λ n. need-holds _ _ _ (test-holds (c .before .before .before .before .has32 .ensures) (c .before .before .before .if1 .left)) (need-holds _ _ _ (none-holds refl (c .if2 .left)) (refl))
+returns-3 c = λ n. need-holds _ _ _ (test-holds (present (c .before) .before .has32 .ensures) (present (c .before) .if1 .left)) (need-holds _ _ _ (none-holds refl (c .if2 .left)) (refl))
 
 pub of-leave-spec : {M : Type 1} → statement M
 of-leave-spec =

@@ -11,6 +11,13 @@ use Rattle.floodnet.proofs.CodeRefusals.{need-fails, need-holds, test-f
 use Rattle.floodnet.proofs.refusals.of_produce.Statement.{statement}
 use Rattle.floodnet.proofs.refusals.of_produce.Tie as tie
 
+-- from the second test: the first one held; and from where the third is made, where the topic was found
+abbrev present : tie.After-struct-known3 → tie.Else1
+present c = c .before .before .before
+
+abbrev topical : tie.After-struct-known5 → tie.After-topic-of
+topical c = c .before .before .before
+
 cast-has32 : tie.Need-cast-has32
 cast-has32 c = search needs
 
@@ -29,7 +36,7 @@ element-copy-out-if2 c = search needs
 
 returns-2 : tie.Need-returns-2
 unfolding refusalProduce isNew
-returns-2 c = λ n. need-holds _ _ _ (test-holds (c .before .before .before .before .before .has32 .ensures) (c .before .before .before .before .if1 .left)) (need-fails _ _ _ (ne-eqb _ _ (c .if2 .taken)))
+returns-2 c = λ n. need-holds _ _ _ (test-holds (present (c .before) .before .has32 .ensures) (present (c .before) .if1 .left)) (need-fails _ _ _ (ne-eqb _ _ (c .if2 .taken)))
 
 topic-of-requires : tie.Need-topic-of-requires
 topic-of-requires c κs = search needs
@@ -47,15 +54,15 @@ cast-has32-3 : tie.Need-cast-has32-3
 cast-has32-3 c = search needs
 
 has32-requires-2 : tie.Need-has32-requires-2
-has32-requires-2 c κs = omega (arith, ap (λ (x : Topic). x .0) (c .before .before .before .topic-of .ensures))
+has32-requires-2 c κs = omega (arith, ap (λ (x : Topic). x .0) (topical c .topic-of .ensures))
 
 returns-3 : tie.Need-returns-3
 unfolding refusalProduce isNew
 returns-3 c =
     let h = c .before in
-    let t = h .before .before .before .before in
+    let t = topical (h .before) in
     let e2 = t .before in
-    let e1 = e2 .before .before .before .before in
+    let e1 = present (e2 .before) in
     λ n. need-holds _ _ _ (test-holds (e1 .before .has32 .ensures) (e1 .if1 .left)) (need-holds _ _ _ (eq-eqb _ _ (e2 .if2 .left)) (need-fails _ _ _ (test-fails (test-topic _ (h .has322 .ensures) (t .topic-of .ensures)) (c .if3 .taken))))
 
 holders-requires : tie.Need-holders-requires
@@ -66,9 +73,9 @@ unfolding refusalProduce isNew
 returns-4 c =
     let e3 = c .before .before in
     let h = e3 .before in
-    let t = h .before .before .before .before in
+    let t = topical (h .before) in
     let e2 = t .before in
-    let e1 = e2 .before .before .before .before in
+    let e1 = present (e2 .before) in
     λ n. need-holds _ _ _ (test-holds (e1 .before .has32 .ensures) (e1 .if1 .left)) (need-holds _ _ _ (eq-eqb _ _ (e2 .if2 .left))
     (need-holds _ _ _ (test-holds (test-topic _ (h .has322 .ensures) (t .topic-of .ensures)) (e3 .if3 .left)) (need-fails _ _ _ (some-fails (holders-is (withPresent (withPubs (withPending (withSeen n _) _) _) _) _ _ (c .before .holders .ensures)) (c .if4 .taken)))))
 
@@ -77,9 +84,9 @@ unfolding refusalProduce isNew
 returns-5 c =
     let e3 = c .before .before in
     let h = e3 .before in
-    let t = h .before .before .before .before in
+    let t = topical (h .before) in
     let e2 = t .before in
-    let e1 = e2 .before .before .before .before in
+    let e1 = present (e2 .before) in
     λ n. need-holds _ _ _ (test-holds (e1 .before .has32 .ensures) (e1 .if1 .left)) (need-holds _ _ _ (eq-eqb _ _ (e2 .if2 .left))
     (need-holds _ _ _ (test-holds (test-topic _ (h .has322 .ensures) (t .topic-of .ensures)) (e3 .if3 .left)) (need-holds _ _ _ (none-holds (holders-is (withPresent (withPubs (withPending (withSeen n _) _) _) _) _ _ (c .before .holders .ensures)) (c .if4 .left)) refl)))
 

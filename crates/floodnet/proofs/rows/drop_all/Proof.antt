@@ -14,6 +14,10 @@ Inv-loop known₀ who own left₀ known left = Picking who left rows (strikes ow
 abbrev μ-loop : tie.MeasureT-loop
 μ-loop known₀ who own left₀ known left = left
 
+-- from where a peer was struck from those left: where it was found
+abbrev found : tie.After-rest32 Inv-loop μ-loop → tie.After-lowest32 Inv-loop μ-loop
+found c = c .before .before .before
+
 cast-with32 : tie.Need-cast-with32 Inv-loop μ-loop
 cast-with32 c = search needs
 
@@ -40,7 +44,7 @@ loop-less c = search needs
 
 loop-again : tie.Need-loop-again Inv-loop μ-loop
 loop-again c =
-    dropping-row _ (c .before .before .before .before .before .loop .inv) (search needs) (c .before .before .before .lowest32 .ensures .0) (c .rest32 .ensures .0) (c .before .row-minus .ensures)
+    dropping-row _ (found c .before .before .loop .inv) (search needs) (found c .lowest32 .ensures .0) (c .rest32 .ensures .0) (c .before .row-minus .ensures)
 
 returns : tie.Need-returns Inv-loop μ-loop
 returns c = along-done (c .before .loop .inv) (c .loop-test .left) ∙ rows-dropped _ _ _ _ (c .before .before .with32 .ensures)

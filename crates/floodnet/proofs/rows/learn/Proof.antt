@@ -12,6 +12,10 @@ Inv-loop known₀ p subs who left₀ known left = Along who left (learnt (p .0) 
 abbrev μ-loop : tie.MeasureT-loop
 μ-loop known₀ p subs who left₀ known left = left
 
+-- from where a peer's topics were noted: where it was found
+abbrev found : tie.After-row-note Inv-loop μ-loop → tie.After-lowest32 Inv-loop μ-loop
+found c = c .before .before .before
+
 loop-holds : tie.Need-loop-holds Inv-loop μ-loop
 loop-holds c = along-none _ _ _ (search needs) (learnt-none _ _)
 
@@ -41,7 +45,7 @@ loop-less c = search needs
 
 loop-again : tie.Need-loop-again Inv-loop μ-loop
 loop-again c =
-    learning _ _ (c .before .before .before .before .before .before .loop .inv) (search needs) (c .before .before .before .before .lowest32 .ensures .0) (c .rest32 .ensures .0) (c .before .row-note .ensures)
+    learning _ _ (found (c .before) .before .before .loop .inv) (search needs) (found (c .before) .lowest32 .ensures .0) (c .rest32 .ensures .0) (c .before .row-note .ensures)
 
 returns : tie.Need-returns Inv-loop μ-loop
 returns c = along-done (c .before .loop .inv) (c .loop-test .left)

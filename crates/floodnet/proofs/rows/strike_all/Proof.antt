@@ -15,6 +15,10 @@ Inv-loop known₀ who topics p left₀ known left = Picking who left (λ t. insi
 abbrev μ-loop : tie.MeasureT-loop
 μ-loop known₀ who topics p left₀ known left = left
 
+-- from where a peer was struck from those left: where it was found
+abbrev found : tie.After-rest32 Inv-loop μ-loop → tie.After-lowest32 Inv-loop μ-loop
+found c = c .before .before .before
+
 loop-holds : tie.Need-loop-holds Inv-loop μ-loop
 loop-holds c = picking-none _ _ _ _ (search needs) (inside-no-peer _)
 
@@ -35,7 +39,7 @@ loop-less c = search needs
 
 loop-again : tie.Need-loop-again Inv-loop μ-loop
 loop-again c =
-    noting-row _ _ (strikes-twice _) (c .before .before .before .before .before .loop .inv) (search needs) (c .before .before .before .lowest32 .ensures .0) (c .rest32 .ensures .0) (c .before .row-strike .ensures ∙ sym (inside-struck _ _ _ _))
+    noting-row _ _ (strikes-twice _) (found c .before .before .loop .inv) (search needs) (found c .lowest32 .ensures .0) (c .rest32 .ensures .0) (c .before .row-strike .ensures ∙ sym (inside-struck _ _ _ _))
 
 returns : tie.Need-returns Inv-loop μ-loop
 returns c = along-done (c .before .loop .inv) (c .loop-test .left) ∙ inside-struck _ _ _ _

@@ -12,6 +12,10 @@ use Rattle.floodnet.proofs.CodeTurns.{stepped-refused, stepped-done}
 use Rattle.floodnet.proofs.turns.forward.Statement.{statement}
 use Rattle.floodnet.proofs.turns.forward.Tie as tie
 
+-- from where the turn was made: nothing refused it
+abbrev allowed : tie.After-forward → tie.Else1
+allowed c = c .before .before .before
+
 of-forward-requires : tie.Need-of-forward-requires
 of-forward-requires c κs = search needs
 
@@ -34,7 +38,7 @@ done-requires c κs = search needs
 returns-2 : tie.Need-returns-2
 unfolding refusal effect kindOf deliveriesOf deliveries
 returns-2 c =
-    λ n os. stepped-done _ (c .before .before .before .before .before .before .of-forward .ensures (withMessages n [] _ _)) (c .before .before .before .before .before .if1 .left) (c .before .before .forward .ensures .1 (withPresent n _) os) (c .done .ensures)
+    λ n os. stepped-done _ (allowed (c .before .before) .before .of-forward .ensures (withMessages n [] _ _)) (allowed (c .before .before) .if1 .left) (c .before .before .forward .ensures .1 (withPresent n _) os) (c .done .ensures)
     ((c .before .size32 .ensures .0) ∙ ap size (c .before .before .forward .ensures .0 (withPresent n _) os)) (c .before .size32 .ensures .1)
 
 pub forward-spec : {M : Type 1} → statement M

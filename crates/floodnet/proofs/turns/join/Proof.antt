@@ -8,6 +8,10 @@ use Rattle.floodnet.proofs.CodeTurns.{stepped-refused, stepped-done}
 use Rattle.floodnet.proofs.turns.join.Statement.{statement}
 use Rattle.floodnet.proofs.turns.join.Tie as tie
 
+-- from where the turn was made: nothing refused it
+abbrev allowed : tie.After-join → tie.Else1
+allowed c = c .before .before .before .before .before .before .before .before
+
 of-join-requires : tie.Need-of-join-requires
 of-join-requires c κs = search needs
 
@@ -26,7 +30,7 @@ done-requires c κs = search needs
 
 returns-2 : tie.Need-returns-2
 unfolding refusal effect kindOf deliveriesOf
-returns-2 c = λ n b. stepped-done _ (c .before .before .before .before .before .before .before .before .before .before .of-join .ensures (withAll n 0 _ _ _ _ _ _)) (c .before .before .before .before .before .before .before .before .before .if1 .left) (c .before .join .ensures n) (c .done .ensures) refl (search needs)
+returns-2 c = λ n b. stepped-done _ (allowed (c .before) .before .of-join .ensures (withAll n 0 _ _ _ _ _ _)) (allowed (c .before) .if1 .left) (c .before .join .ensures n) (c .done .ensures) refl (search needs)
 
 pub join-spec : {M : Type 1} → statement M
 join-spec =

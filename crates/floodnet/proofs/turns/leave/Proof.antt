@@ -9,6 +9,10 @@ use Rattle.floodnet.proofs.CodeTurns.{stepped-refused, stepped-done}
 use Rattle.floodnet.proofs.turns.leave.Statement.{statement}
 use Rattle.floodnet.proofs.turns.leave.Tie as tie
 
+-- from where the turn was made: nothing refused it
+abbrev allowed : tie.After-leave → tie.Else1
+allowed c = c .before .before .before .before .before .before .before .before
+
 of-leave-requires : tie.Need-of-leave-requires
 of-leave-requires c κs = search needs
 
@@ -27,7 +31,7 @@ done-requires c κs = search needs
 
 returns-2 : tie.Need-returns-2
 unfolding refusal effect kindOf deliveriesOf
-returns-2 c = λ n b. stepped-done _ (c .before .before .before .before .before .before .before .before .before .before .of-leave .ensures (withAll n 0 _ _ _ [] _ _)) (c .before .before .before .before .before .before .before .before .before .if1 .left) (c .before .leave .ensures n) (c .done .ensures) refl (search needs)
+returns-2 c = λ n b. stepped-done _ (allowed (c .before) .before .of-leave .ensures (withAll n 0 _ _ _ [] _ _)) (allowed (c .before) .if1 .left) (c .before .leave .ensures n) (c .done .ensures) refl (search needs)
 
 pub leave-spec : {M : Type 1} → statement M
 leave-spec =

@@ -8,6 +8,10 @@ use Rattle.floodnet.proofs.CodeTurns.{stepped-refused, stepped-done}
 use Rattle.floodnet.proofs.turns.produce.Statement.{statement}
 use Rattle.floodnet.proofs.turns.produce.Tie as tie
 
+-- from where the turn was made: nothing refused it
+abbrev allowed : tie.After-produce → tie.Else1
+allowed c = c .before .before
+
 of-produce-requires : tie.Need-of-produce-requires
 of-produce-requires c κs = search needs
 
@@ -26,7 +30,7 @@ done-requires c κs = search needs
 
 returns-2 : tie.Need-returns-2
 unfolding refusal effect kindOf deliveriesOf
-returns-2 c = λ n. stepped-done _ (c .before .before .before .before .of-produce .ensures n) (c .before .before .before .if1 .left) (c .before .produce .ensures (withPresent (withPubs (withSeen n _) _) _)) (c .done .ensures) refl (search needs)
+returns-2 c = λ n. stepped-done _ (allowed (c .before) .before .of-produce .ensures n) (allowed (c .before) .if1 .left) (c .before .produce .ensures (withPresent (withPubs (withSeen n _) _) _)) (c .done .ensures) refl (search needs)
 
 pub produce-spec : {M : Type 1} → statement M
 produce-spec =

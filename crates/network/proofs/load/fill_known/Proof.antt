@@ -16,6 +16,10 @@ Inv-loop state known₀ p₀ known p = (p ≤ 32) × Filled 1024 (knownIn state)
 abbrev μ-loop : tie.MeasureT-loop
 μ-loop state known₀ p₀ known p = 32 - p
 
+-- from where a row was read: the loop's head
+abbrev head : tie.After-row Inv-loop μ-loop → tie.At-loop Inv-loop μ-loop
+head c = c .before .before .before
+
 loop-holds : tie.Need-loop-holds Inv-loop μ-loop
 loop-holds c = (search needs, filled-none 1024 _ _ (search needs))
 
@@ -32,7 +36,7 @@ loop-less : tie.Need-loop-less Inv-loop μ-loop
 loop-less c = search needs
 
 loop-again : tie.Need-loop-again Inv-loop μ-loop
-loop-again c = let l = c .before .before .before .before .loop in (search needs, row-read _ (l .p) (c .before .row .ensures) (c .put-row .ensures) (l .inv .1))
+loop-again c = (search needs, row-read _ (head (c .before) .loop .p) (c .before .row .ensures) (c .put-row .ensures) (head (c .before) .loop .inv .1))
 
 returns : tie.Need-returns Inv-loop μ-loop
 returns c = let e : c .before .loop .p ≡ 32 = omega arith in filled-all (rw e at (c .before .loop .inv .1))

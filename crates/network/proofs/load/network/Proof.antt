@@ -4,6 +4,13 @@ use Rattle.network.specs.laws.Opening.{net-is}
 use Rattle.network.proofs.load.network.Statement.{statement}
 use Rattle.network.proofs.load.network.Tie as tie
 
+-- from where all was read: where the neighbours were; and where it was known who is present
+abbrev linked : tie.After-known → tie.After-words4
+linked c = c .before .before .before
+
+abbrev counted : tie.After-known → tie.After-ones
+counted c = linked c .before .before .before
+
 words-requires : tie.Need-words-requires
 words-requires c κs = search needs
 
@@ -30,7 +37,7 @@ known-requires c κs = search needs
 
 returns : tie.Need-returns
 returns c =
-    net-is _ (c .before .before .before .before .before .before .before .before .words .ensures) (c .before .before .before .before .before .before .ones .ensures) (c .before .before .before .before .before .words2 .ensures) (c .before .before .before .before .words3 .ensures) (c .before .before .before .words4 .ensures)
+    net-is _ (counted c .before .before .words .ensures) (counted c .ones .ensures) (linked c .before .before .words2 .ensures) (linked c .before .words3 .ensures) (linked c .words4 .ensures)
     (c .before .before .longs .ensures) (c .before .longs2 .ensures) (c .known .ensures)
 
 pub network-spec : {M : Type 1} → statement M

@@ -19,6 +19,10 @@ Inv-loop words ok₀ r₀ ok r = (r ≤ 64) × (ok ≡ all r (λ (i : ℕ). word
 abbrev μ-loop : tie.MeasureT-loop
 μ-loop words ok₀ r₀ ok r = 64 - r
 
+-- from where a row was tried: the loop's head
+abbrev head : tie.After-right Inv-loop μ-loop → tie.At-loop Inv-loop μ-loop
+head c = c .before .before .before
+
 loop-holds : tie.Need-loop-holds Inv-loop μ-loop
 loop-holds c = (search needs, all-start _)
 
@@ -39,7 +43,7 @@ loop-less c = search needs
 
 loop-again : tie.Need-loop-again Inv-loop μ-loop
 loop-again c =
-    let l = c .before .before .before .before .loop in
+    let l = head (c .before) .loop in
     let e = sym (c .before .right .ensures) in (
       search needs,
       ⊎-elim

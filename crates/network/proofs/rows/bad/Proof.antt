@@ -17,6 +17,10 @@ Inv-loop words r₀ r = (r ≤ 64) × (r ≡ lowestOf r (λ (i : ℕ). not (word
 abbrev μ-loop : tie.MeasureT-loop
 μ-loop words r₀ r = 64 - r
 
+-- from where a row was tried: the loop's head
+abbrev head : tie.After-right Inv-loop μ-loop → tie.At-loop Inv-loop μ-loop
+head c = c .before .before .before
+
 all-right-requires : tie.Need-all-right-requires Inv-loop μ-loop
 all-right-requires c κs = search needs
 
@@ -38,7 +42,7 @@ right-requires c κs = search needs
 
 returns-2 : tie.Need-returns-2 Inv-loop μ-loop
 unfolding badWord
-returns-2 c = lowestOf-found 64 _ _ (c .before .before .before .before .loop .inv .1) (search needs) (ap not (sym (c .before .right .ensures)) ∙ c .if2 .taken)
+returns-2 c = lowestOf-found 64 _ _ (head (c .before) .loop .inv .1) (search needs) (ap not (sym (c .before .right .ensures)) ∙ c .if2 .taken)
 
 add-r : tie.Need-add-r Inv-loop μ-loop
 add-r c = search needs
@@ -47,7 +51,7 @@ loop-less : tie.Need-loop-less Inv-loop μ-loop
 loop-less c = search needs
 
 loop-again : tie.Need-loop-again Inv-loop μ-loop
-loop-again c = (search needs, lowestOf-on _ _ (c .before .before .before .before .loop .inv .1) (ap not (sym (c .before .right .ensures)) ∙ c .if2 .left))
+loop-again c = (search needs, lowestOf-on _ _ (head (c .before) .loop .inv .1) (ap not (sym (c .before .right .ensures)) ∙ c .if2 .left))
 
 returns-3 : tie.Need-returns-3 Inv-loop μ-loop
 unfolding badWord

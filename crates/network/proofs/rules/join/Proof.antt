@@ -11,6 +11,10 @@ Inv-loop to₀ topics q left₀ to left = Joins to₀ topics (q .0) left to
 abbrev μ-loop : tie.MeasureT-loop
 μ-loop to₀ topics q left₀ to left = left
 
+-- from where the peer was added to a topic: where the topic was found
+abbrev found : tie.After-with32 Inv-loop μ-loop → tie.After-lowest32 Inv-loop μ-loop
+found c = c .before .before .before
+
 loop-holds : tie.Need-loop-holds Inv-loop μ-loop
 loop-holds c = joins-none _ _ _ (search needs)
 
@@ -46,9 +50,7 @@ loop-less c = search needs
 
 loop-again : tie.Need-loop-again Inv-loop μ-loop
 loop-again c =
-    let q = c .before .before .before .before in
-    let l = q .before .before .loop in
-    joins-more (l .inv) (search needs) (q .lowest32 .ensures .0) (c .rest32 .ensures .0) (c .before .with32 .ensures)
+    joins-more (found (c .before) .before .before .loop .inv) (search needs) (found (c .before) .lowest32 .ensures .0) (c .rest32 .ensures .0) (c .before .with32 .ensures)
 
 returns : tie.Need-returns Inv-loop μ-loop
 returns c = joins-all (c .before .loop .inv) (omega arith)

@@ -13,6 +13,10 @@ Inv-loop neighbours listed p left₀ left = Backs neighbours listed (p .0) left
 abbrev μ-loop : tie.MeasureT-loop
 μ-loop neighbours listed p left₀ left = left
 
+-- from where a neighbour's list was asked: where it was found
+abbrev found : tie.After-has32 Inv-loop μ-loop → tie.After-lowest32 Inv-loop μ-loop
+found c = c .before .before .before
+
 loop-holds : tie.Need-loop-holds Inv-loop μ-loop
 loop-holds c = backs-none _ _ _ (search needs)
 
@@ -36,9 +40,7 @@ has32-requires c κs = search needs
 
 returns : tie.Need-returns Inv-loop μ-loop
 returns c =
-    let q = c .before .before .before .before in
-    let l = q .before .before .loop in
-    backs-not (l .inv) (search needs) (q .lowest32 .ensures .0) (sym (c .before .has32 .ensures) ∙ not-yes _ (c .if1 .taken))
+    backs-not (found (c .before) .before .before .loop .inv) (search needs) (found (c .before) .lowest32 .ensures .0) (sym (c .before .has32 .ensures) ∙ not-yes _ (c .if1 .taken))
 
 rest32-requires : tie.Need-rest32-requires Inv-loop μ-loop
 rest32-requires c κs = search needs
@@ -49,9 +51,7 @@ loop-less c = search needs
 loop-again : tie.Need-loop-again Inv-loop μ-loop
 loop-again c =
     let h = c .before .before in
-    let q = h .before .before .before in
-    let l = q .before .before .loop in
-    backs-more (l .inv) (search needs) (q .lowest32 .ensures .0) (c .rest32 .ensures .0) (sym (h .has32 .ensures) ∙ not-no _ (c .before .if1 .left))
+    backs-more (found h .before .before .loop .inv) (search needs) (found h .lowest32 .ensures .0) (c .rest32 .ensures .0) (sym (h .has32 .ensures) ∙ not-no _ (c .before .if1 .left))
 
 returns-2 : tie.Need-returns-2 Inv-loop μ-loop
 returns-2 c = backs-all (c .before .loop .inv) (omega arith)

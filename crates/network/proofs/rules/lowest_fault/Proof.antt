@@ -19,6 +19,10 @@ Inv-loop heads present pubs subs neighbours pending seen known subscribers p₀ 
 abbrev μ-loop : tie.MeasureT-loop
 μ-loop heads present pubs subs neighbours pending seen known subscribers p₀ p = 32 - p
 
+-- from where a peer's rules were asked: where the loop's test held
+abbrev inside : tie.After-fault Inv-loop μ-loop → tie.In-loop Inv-loop μ-loop
+inside c = c .before .before .before
+
 subscribers-requires : tie.Need-subscribers-requires Inv-loop μ-loop
 subscribers-requires c κs = search needs
 
@@ -39,7 +43,7 @@ fault-requires c κs = search needs
 
 returns : tie.Need-returns Inv-loop μ-loop
 returns c =
-    let l = c .before .before .before .before .before .loop in
+    let l = inside (c .before) .before .loop in
     λ n. faulty-found _ _ (l .p) (l .inv .1 n) (search needs) (c .before .fault .ensures n) (c .if1 .taken)
 
 add-p : tie.Need-add-p Inv-loop μ-loop
@@ -50,7 +54,7 @@ loop-less c = search needs
 
 loop-again : tie.Need-loop-again Inv-loop μ-loop
 loop-again c =
-    let l = c .before .before .before .before .before .loop in
+    let l = inside (c .before) .before .loop in
     (search needs, λ n. faulty-on _ _ _ (l .inv .1 n) (c .before .fault .ensures n) (c .if1 .left))
 
 returns-2 : tie.Need-returns-2 Inv-loop μ-loop

@@ -26,6 +26,10 @@ start3 c = start2 (c .before .before)
 abbrev start4 : tie.Else4 → tie.Start
 start4 c = start3 (c .before .before)
 
+-- from the last test: the one before it was passed
+abbrev passed : tie.After-meet64 → tie.Else4
+passed c = c .before .before .before
+
 -- the network that the contract speaks of, and what each test that was passed says of it
 abbrev net : Network → tie.Start → Network
 net n s =
@@ -110,7 +114,7 @@ meet64-requires c κs = search needs
 returns-5 : tie.Need-returns-5
 unfolding apartRight
 returns-5 c =
-    let e4 = c .before .before .before .before in
+    let e4 = passed (c .before) in
     let e3 = e4 .before .before in
     let e2 = e3 .before .before in
     λ n. fault-7 _ _ (own n (e2 .before .before)) (near n e2) (back n e3) (known n e4) (ne-eqb _ _ λ e. c .if5 .taken (c .before .meet64 .ensures ∙ e))
@@ -118,7 +122,7 @@ returns-5 c =
 returns-6 : tie.Need-returns-6
 unfolding apartRight
 returns-6 c =
-    let e4 = c .before .before .before .before in
+    let e4 = passed (c .before) in
     let e3 = e4 .before .before in
     let e2 = e3 .before .before in
     λ n. fault-none _ _ (own n (e2 .before .before)) (near n e2) (back n e3) (known n e4) (eq-eqb _ _ (sym (c .before .meet64 .ensures) ∙ c .if5 .left))

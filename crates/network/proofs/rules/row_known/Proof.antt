@@ -18,6 +18,10 @@ Inv-loop known subscribers listed p t₀ t = (t ≤ 32) × (t ≡ lowestOf t (λ
 abbrev μ-loop : tie.MeasureT-loop
 μ-loop known subscribers listed p t₀ t = 32 - t
 
+-- from where a topic's subscribers were met with the list: where its spot was found
+abbrev spotted : tie.After-meet32 Inv-loop μ-loop → tie.After-spot Inv-loop μ-loop
+spotted c = c .before .before .before
+
 row-same-requires : tie.Need-row-same-requires Inv-loop μ-loop
 row-same-requires c κs = search needs
 
@@ -55,7 +59,7 @@ cast-result c = search needs
 returns-2 : tie.Need-returns-2 Inv-loop μ-loop
 unfolding rowKnown
 returns-2 c =
-    let s = c .before .before .before .before in
+    let s = spotted (c .before) in
     let k = s .before .before in
     let a = k .before .before .before .args in
     let l = k .loop in
@@ -69,7 +73,7 @@ loop-less c = search needs
 
 loop-again : tie.Need-loop-again Inv-loop μ-loop
 loop-again c =
-    let s = c .before .before .before .before in
+    let s = spotted (c .before) in
     let k = s .before .before in
     let a = k .before .before .before .args in
     let l = k .loop in

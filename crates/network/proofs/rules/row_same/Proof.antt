@@ -20,6 +20,10 @@ Inv-loop known subscribers listed base same₀ t₀ same t = (t ≤ 32) × (same
 abbrev μ-loop : tie.MeasureT-loop
 μ-loop known subscribers listed base same₀ t₀ same t = 32 - t
 
+-- from where a topic's subscribers were met with the list: where the loop's test held
+abbrev inside : tie.After-meet32 Inv-loop μ-loop → tie.In-loop Inv-loop μ-loop
+inside c = c .before .before .before
+
 cast-base : tie.Need-cast-base Inv-loop μ-loop
 cast-base c = search needs
 
@@ -56,7 +60,7 @@ loop-less c = search needs
 loop-again : tie.Need-loop-again Inv-loop μ-loop
 loop-again c =
     let m = c .before .meet32 .ensures in
-    let l = c .before .before .before .before .before .loop in (
+    let l = inside (c .before) .before .loop in (
       search needs,
       ⊎-elim
           (λ w. w .1 ∙ all-lost (l .t) _ (ne-eqb _ _ (λ e. w .0 .taken (e ∙ sym m))))

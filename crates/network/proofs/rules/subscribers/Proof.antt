@@ -15,6 +15,10 @@ Inv-loop subs r₀ q₀ r q = (q ≤ 32) × (r ≡ tab 32 (upTo subs q))
 abbrev μ-loop : tie.MeasureT-loop
 μ-loop subs r₀ q₀ r q = 32 - q
 
+-- from where a peer is joined in: the loop's head
+abbrev head : tie.After-join-arg Inv-loop μ-loop → tie.At-loop Inv-loop μ-loop
+head c = c .before .before .before
+
 loop-holds : tie.Need-loop-holds Inv-loop μ-loop
 loop-holds c = (search needs, subscribers-none (c .args .subs .now))
 
@@ -38,7 +42,7 @@ loop-less c = search needs
 
 loop-again : tie.Need-loop-again Inv-loop μ-loop
 loop-again c =
-    let l = c .before .before .before .before in
+    let l = head (c .before) in
     (search needs, subscribers-more (l .before .args .subs .now) (l .loop .q) (l .loop .inv .1) (c .join .ensures))
 
 returns : tie.Need-returns Inv-loop μ-loop

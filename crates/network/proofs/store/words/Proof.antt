@@ -5,6 +5,22 @@ use borrow.Author.Needs.{needs}
 use Rattle.network.proofs.store.words.Statement.{statement}
 use Rattle.network.proofs.store.words.Tie as tie
 
+-- from where a word is about to be written: where the one before it was
+abbrev pending : tie.After-put8-arg2 → tie.After-put8
+pending c = c .before .before .before
+
+abbrev neighbours : tie.After-put8-arg → tie.After-put44
+neighbours c = c .before .before .before
+
+abbrev subs : tie.After-put4-arg4 → tie.After-put43
+subs c = c .before .before .before
+
+abbrev pubs : tie.After-put4-arg3 → tie.After-put42
+pubs c = c .before .before .before
+
+abbrev head : tie.After-put4-arg2 → tie.After-put4
+head c = c .before .before .before
+
 cast-at : tie.Need-cast-at
 cast-at c = search needs
 
@@ -50,11 +66,11 @@ same-length c = search needs
 returns : tie.Need-returns
 returns c =
     let w5 = c .before .before in
-    let w4 = w5 .before .before .before .before in
-    let w3 = w4 .before .before .before .before in
-    let w2 = w3 .before .before .before .before in
-    let w1 = w2 .before .before .before .before in
-    let w0 = w1 .before .before .before .before in
+    let w4 = pending (w5 .before) in
+    let w3 = neighbours (w4 .before) in
+    let w2 = subs (w3 .before) in
+    let w1 = pubs (w2 .before) in
+    let w0 = head (w1 .before) in
     head-chain _ _ _ _ _ _ _ _ (w0 .put4 .ensures) (w1 .put42 .ensures) (w2 .put43 .ensures) (w3 .put44 .ensures) (w4 .put8 .ensures) (w5 .put82 .ensures)
 
 pub words-spec : {M : Type 1} → statement M

@@ -21,6 +21,13 @@ number-at t = and 1 number-kinds.ps (is 1 number-kinds.ps μ-number t) number.Pr
 abbrev number-below : ℕ → In 1 number-kinds.ps
 number-below t = and 1 number-kinds.ps (falls 1 number-kinds.ps _<_ μ-number t) number.Pre
 
+-- from where the last of two digits or more is written: the test's second branch
+abbrev longer :
+    (t : ℕ) →
+    number-lts.After-slice-known2 (number-below t, number.Post) (number-at t) number.Post →
+    number-lts.Else1 (number-below t, number.Post) (number-at t) number.Post
+longer t c = c .before .before .before .before
+
 number-cast-out :
     (t : ℕ) → number-lts.Need-cast-out (number-below t, number.Post) (number-at t) number.Post
 number-cast-out t c = search needs
@@ -63,11 +70,11 @@ number-slice-write-out-2 : (t : ℕ) → number-lts.Need-slice-write-out-2 (
   number-below t,
   number.Post,
 ) (number-at t) number.Post
-number-slice-write-out-2 t c = omega (arith, length-more _ (c .before .before .before .before .if1 .left))
+number-slice-write-out-2 t c = omega (arith, length-more _ (longer t c .if1 .left))
 
 number-add-result-2 :
     (t : ℕ) → number-lts.Need-add-result-2 (number-below t, number.Post) (number-at t) number.Post
-number-add-result-2 t c = omega (arith, length-more _ (c .before .before .before .before .if1 .left))
+number-add-result-2 t c = omega (arith, length-more _ (longer t c .if1 .left))
 
 number-same-length-2 :
     (t : ℕ) →
@@ -76,7 +83,7 @@ number-same-length-2 t c = search needs
 
 number-returns-2 :
     (t : ℕ) → number-lts.Need-returns-2 (number-below t, number.Post) (number-at t) number.Post
-number-returns-2 t c = wrote-tenth _ (c .before .before .before .before .if1 .left) (c .before .before .number .ensures)
+number-returns-2 t c = wrote-tenth _ (longer t c .if1 .left) (c .before .before .number .ensures)
 
 pub +number-spec : {M : Type 1} → statement M
 +number-spec =

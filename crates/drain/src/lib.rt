@@ -1,10 +1,11 @@
 // The drain by rounds, and demand 3 over the network (document 01, "Drain by rounds"; the minutes, demand 3).
 //
-// Read specs/Reach.antt: the client's page, demand 3 sentence by sentence over a sound network and its table. specs/Drain.antt
-// says what a drain answers; specs/laws/ReachLaws.antt proves the page, specs/laws/ReachWords.antt has its words in flooding's. The functions here make the drain on the arrays that a caller
-// lends; specs/Lent.antt has the words of their contracts, specs/Pairs.antt and specs/laws/Turns.antt what their loops keep. specs/AtOnce.antt
-// and proofs/AtOnceForwards.antt: a peer's messages forwarded at once are its forwards one by one. A drain looks only at the messages that are
-// pending when it begins and at their topics: it files them once (proofs/Filing.antt), and no other message becomes pending (proofs/Within.antt).
+// Read specs/Reach.antt: the client's page, demand 3 sentence by sentence over a sound network and its table. specs/Drain.antt says what a drain
+// answers; specs/laws/ReachLaws.antt proves the page, specs/laws/ReachWords.antt has its words in flooding's. The functions here make the drain on
+// the arrays that a caller lends; specs/Lent.antt has the words of their contracts, specs/Pairs.antt and specs/laws/Turns.antt what their loops keep.
+// specs/AtOnce.antt and proofs/AtOnceForwards.antt: a peer's messages forwarded at once are its forwards one by one. A drain looks only at the
+// messages that are pending when it begins and at their topics: it files them once (proofs/Filing.antt), and no other message becomes pending
+// (proofs/Within.antt).
 ghost use mathlib.Core.Path.{_≡_};
 ghost use Prim.Native.Nat.{ℕ, _^_, _<_, _≤_};
 ghost use lib.Dec.{eqb};

@@ -276,9 +276,8 @@ pub(crate) fn run_core(
     if begun.number != 0 {
         return answer(begun.number, begun.place, 0);
     }
-    let rows = begun.table;
-    let topics = rows.topics;
-    let origins = rows.origins;
+    let topics = begun.table.topics;
+    let origins = begun.table.origins;
     run_saved(
         state,
         begun.present,

@@ -7,7 +7,7 @@ use Rattle.engine.proofs.running.run_core.Tie as tie
 
 -- from where the run is made: the test that the state was read, and where it was
 abbrev read : tie.After-run-saved-arg4 → tie.Else1
-read c = c .before .before .before .before .before .before .before .before .before .before .before .before .before .before .before
+read c = c .before .before .before .before .before .before .before .before .before .before .before .before .before .before
 
 abbrev begun : tie.After-run-saved-arg4 → tie.After-start
 begun c = read c .before .before

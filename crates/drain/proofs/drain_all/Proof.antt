@@ -34,9 +34,9 @@ sorted h = h .before .before
 abbrev head : tie.After-waiting Inv-loop μ-loop → tie.At-loop Inv-loop μ-loop
 head c = c .before .before .before
 
--- from the place after a round: where some pair was waiting
-abbrev some : tie.After-drain-round Inv-loop μ-loop → tie.Else1 Inv-loop μ-loop
-some c = c .before .before .before .before
+-- from the place before a round: where some pair was waiting
+abbrev some : tie.After-words Inv-loop μ-loop → tie.Else1 Inv-loop μ-loop
+some c = c .before .before .before
 
 anywhere-requires : tie.Need-anywhere-requires Inv-loop μ-loop
 anywhere-requires c κs = search needs
@@ -66,21 +66,21 @@ sub-drain-round c = search needs
 
 drain-round-requires : tie.Need-drain-round-requires Inv-loop μ-loop
 drain-round-requires c κs =
-    let turn = head (c .before .before .before .before) in
+    let turn = head (some c .before) in
     let s = sorted turn in
     (start s .pre, (own-topics (start s .args .topics .now) (s .by-topic .result) (search needs) (s .by-topic .ensures), turn .loop .inv .1))
 
 -- one round: within the budget, and something was forwarded
 fits : (c : tie.After-drain-round Inv-loop μ-loop)
-    → (let turn = head (some c .before) in turn .loop .made + c .drain-round .result ≤ start (sorted turn) .args .budget)
+    → (let turn = head (some (c .before) .before) in turn .loop .made + c .drain-round .result ≤ start (sorted turn) .args .budget)
 fits c =
-    let counted = some c .before in
-    lent-fits (head counted .loop .inv .0) (counted .waiting .ensures .0) (some c .if1 .left) (c .drain-round .ensures .1) (c .drain-round .ensures .0)
+    let counted = some (c .before) .before in
+    lent-fits (head counted .loop .inv .0) (counted .waiting .ensures .0) (some (c .before) .if1 .left) (c .drain-round .ensures .1) (c .drain-round .ensures .0)
 
 moves : (c : tie.After-drain-round Inv-loop μ-loop) → 0 < c .drain-round .result
 moves c =
-    let counted = some c .before in
-    lent-moves (head counted .loop .inv .0) (counted .waiting .ensures .0) (some c .if1 .left) (c .drain-round .ensures .1) (c .drain-round .ensures .0)
+    let counted = some (c .before) .before in
+    lent-moves (head counted .loop .inv .0) (counted .waiting .ensures .0) (some (c .before) .if1 .left) (c .drain-round .ensures .1) (c .drain-round .ensures .0)
     (search needs)
 
 add-made : tie.Need-add-made Inv-loop μ-loop
@@ -88,7 +88,7 @@ add-made c = omega (arith, fits c)
 
 add-rounds : tie.Need-add-rounds Inv-loop μ-loop
 add-rounds c =
-    let turn = head (some (c .before) .before) in
+    let turn = head (some (c .before .before) .before) in
     omega (arith, fits (c .before), moves (c .before), turn .loop .inv .0 .going bare [] .fewer)
 
 loop-less : tie.Need-loop-less Inv-loop μ-loop
@@ -97,10 +97,10 @@ loop-less c = omega (arith, fits (c .before), moves (c .before))
 loop-again : tie.Need-loop-again Inv-loop μ-loop
 loop-again c =
     let made = c .before in
-    let counted = some made .before in
+    let counted = some (made .before) .before in
     let turn = head counted in
     let v = turn .loop .inv in (
-      lent-round (v .0) (counted .waiting .ensures .0) (some made .if1 .left) (made .drain-round .ensures .1) (made .drain-round .ensures .0) (c .if2 .taken),
+      lent-round (v .0) (counted .waiting .ensures .0) (some (made .before) .if1 .left) (made .drain-round .ensures .1) (made .drain-round .ensures .0) (c .if2 .taken),
       leads-within (Filed _ _ _) (start (sorted turn) .args .budget - turn .loop .made) _ _ _ (made .drain-round .ensures .1) (v .1),
     )
 
@@ -110,10 +110,10 @@ loop-less-2 c = omega (arith, fits (c .before), moves (c .before))
 loop-again-2 : tie.Need-loop-again-2 Inv-loop μ-loop
 loop-again-2 c =
     let made = c .before in
-    let counted = some made .before in
+    let counted = some (made .before) .before in
     let turn = head counted in
     let v = turn .loop .inv in (
-      lent-part (v .0) (counted .waiting .ensures .0) (some made .if1 .left) (made .drain-round .ensures .1) (made .drain-round .ensures .0) (c .if2 .left),
+      lent-part (v .0) (counted .waiting .ensures .0) (some (made .before) .if1 .left) (made .drain-round .ensures .1) (made .drain-round .ensures .0) (c .if2 .left),
       leads-within (Filed _ _ _) (start (sorted turn) .args .budget - turn .loop .made) _ _ _ (made .drain-round .ensures .1) (v .1),
     )
 

@@ -14,6 +14,10 @@ Inv-loop pending₀ seen s w left₀ pending left = Along s left (gives w seen) 
 abbrev μ-loop : tie.MeasureT-loop
 μ-loop pending₀ seen s w left₀ pending left = left
 
+-- from the place where q's word is made: where q was taken
+abbrev least : tie.After-union64 Inv-loop μ-loop → tie.After-lowest32 Inv-loop μ-loop
+least c = c .before .before .before .before
+
 loop-holds : tie.Need-loop-holds Inv-loop μ-loop
 loop-holds c = along-none _ _ _ (search needs) (gives-none _ _)
 
@@ -55,8 +59,8 @@ loop-less c = search needs
 
 loop-again : tie.Need-loop-again Inv-loop μ-loop
 loop-again c =
-    let least = c .before .before .before .before .before in
-    giving _ _ (least .before .before .loop .inv) (search needs) (least .lowest32 .ensures .0) (c .rest32 .ensures .0)
+    let low = least (c .before) in
+    giving _ _ (low .before .before .loop .inv) (search needs) (low .lowest32 .ensures .0) (c .rest32 .ensures .0)
     (c .before .union64 .ensures ∙ ap (union _) (c .before .before .minus64 .ensures))
 
 returns : tie.Need-returns Inv-loop μ-loop

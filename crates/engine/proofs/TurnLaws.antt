@@ -12,11 +12,7 @@ use Rattle.events.specs.Fits.{EventFits}
 use Rattle.floodnet.specs.declared.Turned.{Turned}
 use Rattle.events.specs.Kind.{kindOf}
 use Rattle.floodnet.specs.Step.{refusal, effect, ifAccepted, after, deliveriesOf, turned, turnedOf}
-use Rattle.engine.specs.Run.{refusedBy, turnOf, ReadFits}
-
--- what the function answers and leaves
-abbrev pub Turn : Table → Network → Read → Network → Turned → Type 0
-Turn b n read m r = (m ≡ turnOf b n read .network) × ((r ≡ turnOf b n read .turned) × (r .deliveries ≤ 32))
+use Rattle.engine.specs.Run.{refusedBy, turnOf, Turn, ReadFits}
 
 pub taken-fits : {read : Read} {e : Event} → read ≡ Taken e → ReadFits read → EventFits e
 unfolding ReadFits

@@ -6,7 +6,7 @@
 use mathlib.Core.Path.{_≡_}
 use mathlib.Core.Bool.{cond}
 use mathlib.Core.List.{List}
-use Prim.Native.Nat.{ℕ, zero, suc, _+_, _/_, _^_, _<_}
+use Prim.Native.Nat.{ℕ, zero, suc, _+_, _/_, _^_, _≤_, _<_}
 use lib.Dec.{eqb}
 use lib.ListN.{length}
 use Rattle.network.specs.declared.Network.{Network}
@@ -67,6 +67,10 @@ turnOf b n (Taken e) = record { turned = turnedOf n b e; network = after n b e }
 turnOf b n End = record { turned = refusedBy (readingOf End .number); network = n }
 turnOf b n Unknown = record { turned = refusedBy (readingOf Unknown .number); network = n }
 turnOf b n Unfit = record { turned = refusedBy (readingOf Unfit .number); network = n }
+
+-- m and r are what becomes of n, and its answer; no event delivers to more than 32
+abbrev pub Turn : Table → Network → Read → Network → Turned → Type 0
+Turn b n read m r = (m ≡ turnOf b n read .network) × ((r ≡ turnOf b n read .turned) × (r .deliveries ≤ 32))
 
 -- ---- a run
 

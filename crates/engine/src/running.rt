@@ -3,9 +3,9 @@
 ghost use mathlib.Core.Path.{_≡_};
 ghost use Prim.Native.Nat.{_≤_};
 ghost use lib.ListN.{length};
-ghost use Rattle.network.specs.Network.{mk, Rows};
-ghost use Rattle.network.specs.Network.{table};
-ghost use Rattle.engine.specs.Run.{tally, answered, refusedBy, turnOf, ran, runAll, RunsTo, written, runOf, Ends};
+ghost use Rattle.network.specs.declared.Network.{Network};
+ghost use Rattle.network.specs.Network.{mk, withAll, table, Rows};
+ghost use Rattle.engine.specs.Run.{tally, answered, refusedBy, Turn, ran, runAll, RunsTo, written, runOf, Ends};
 ghost use Rattle.engine.specs.Run.{ReadFits};
 use crate::Answer;
 use crate::Ran;
@@ -42,15 +42,11 @@ fn turn(
     read: Read,
 ) -> Turned
     requires { ⌜ ReadFits read × Rows (table (now topics) (now origins)) ⌝ }
-    ensures { λ r.
-        ⌜ mk (now (present .exit)) (now (pubs .exit)) (now (subs .exit)) (now (neighbours .exit)) (now (pending .exit)) (now (seen .exit))
-        (now (known .exit)) ≡ turnOf (table (now (topics .entry)) (now (origins .entry)))
-        (mk (now (present .entry)) (now (pubs .entry)) (now (subs .entry)) (now (neighbours .entry)) (now (pending .entry))
-        (now (seen .entry)) (now (known .entry))) read .network ⌝ }
-    ensures { λ r. ⌜ r ≡ turnOf (table (now (topics .entry)) (now (origins .entry)))
-        (mk (now (present .entry)) (now (pubs .entry)) (now (subs .entry)) (now (neighbours .entry)) (now (pending .entry))
-        (now (seen .entry)) (now (known .entry))) read .turned ⌝ }
-    ensures { λ r. ⌜ r .deliveries ≤ 32 ⌝ }
+    ensures { λ r. ⌜ ((n : Network) → Turn (table (now (topics .entry)) (now (origins .entry)))
+        (withAll n (now (present .entry)) (now (pubs .entry)) (now (subs .entry)) (now (neighbours .entry)) (now (pending .entry))
+        (now (seen .entry)) (now (known .entry))) read
+        (withAll n (now (present .exit)) (now (pubs .exit)) (now (subs .exit)) (now (neighbours .exit)) (now (pending .exit))
+        (now (seen .exit)) (now (known .exit))) r) ⌝ }
 {
     match read {
         Read::Taken(e) => floodnet::step(
@@ -97,12 +93,12 @@ pub(crate) fn run_parts(
     deliveries: &mut u64,
 ) -> Answer
     requires { ⌜ Rows (table (now topics) (now origins)) ⌝ }
-    ensures { λ r. ⌜ RunsTo (ran r
-        (mk (now (present .exit)) (now (pubs .exit)) (now (subs .exit)) (now (neighbours .exit)) (now (pending .exit)) (now (seen .exit))
-        (now (known .exit)))) (tally (now (produced .exit)) (now (forwards .exit)) (now (deliveries .exit)))
+    ensures { λ r. ⌜ ((n : Network) → RunsTo (ran r
+        (withAll n (now (present .exit)) (now (pubs .exit)) (now (subs .exit)) (now (neighbours .exit)) (now (pending .exit))
+        (now (seen .exit)) (now (known .exit)))) (tally (now (produced .exit)) (now (forwards .exit)) (now (deliveries .exit)))
         (runAll (now (events .entry)) (table (now (topics .entry)) (now (origins .entry)))
-        (mk (now (present .entry)) (now (pubs .entry)) (now (subs .entry)) (now (neighbours .entry)) (now (pending .entry))
-        (now (seen .entry)) (now (known .entry)))) ⌝ }
+        (withAll n (now (present .entry)) (now (pubs .entry)) (now (subs .entry)) (now (neighbours .entry)) (now (pending .entry))
+        (now (seen .entry)) (now (known .entry))))) ⌝ }
 {
     *produced = 0;
     *forwards = 0;

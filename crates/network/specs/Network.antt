@@ -30,29 +30,29 @@ mk present pubs subs neighbours pending seen known =
     record { present = present; pubs = pubs; subs = subs; neighbours = neighbours; pending = pending; seen = seen; known = known }
 
 -- n with other parts in place of its own, one or all
-abbrev pub withPresent : Network → ℕ → Network
-withPresent n x = mk x (n .pubs) (n .subs) (n .neighbours) (n .pending) (n .seen) (n .known)
-
-abbrev pub withPubs : Network → List ℕ → Network
-withPubs n x = mk (n .present) x (n .subs) (n .neighbours) (n .pending) (n .seen) (n .known)
-
-abbrev pub withSubs : Network → List ℕ → Network
-withSubs n x = mk (n .present) (n .pubs) x (n .neighbours) (n .pending) (n .seen) (n .known)
-
-abbrev pub withNeighbours : Network → List ℕ → Network
-withNeighbours n x = mk (n .present) (n .pubs) (n .subs) x (n .pending) (n .seen) (n .known)
-
-abbrev pub withPending : Network → List ℕ → Network
-withPending n x = mk (n .present) (n .pubs) (n .subs) (n .neighbours) x (n .seen) (n .known)
-
-abbrev pub withSeen : Network → List ℕ → Network
-withSeen n x = mk (n .present) (n .pubs) (n .subs) (n .neighbours) (n .pending) x (n .known)
-
-abbrev pub withKnown : Network → List ℕ → Network
-withKnown n x = mk (n .present) (n .pubs) (n .subs) (n .neighbours) (n .pending) (n .seen) x
-
 abbrev pub withAll : Network → ℕ → List ℕ → List ℕ → List ℕ → List ℕ → List ℕ → List ℕ → Network
 withAll n present pubs subs neighbours pending seen known = mk present pubs subs neighbours pending seen known
+
+abbrev pub withPresent : Network → ℕ → Network
+withPresent n x = withAll n x (n .pubs) (n .subs) (n .neighbours) (n .pending) (n .seen) (n .known)
+
+abbrev pub withPubs : Network → List ℕ → Network
+withPubs n x = withAll n (n .present) x (n .subs) (n .neighbours) (n .pending) (n .seen) (n .known)
+
+abbrev pub withSubs : Network → List ℕ → Network
+withSubs n x = withAll n (n .present) (n .pubs) x (n .neighbours) (n .pending) (n .seen) (n .known)
+
+abbrev pub withNeighbours : Network → List ℕ → Network
+withNeighbours n x = withAll n (n .present) (n .pubs) (n .subs) x (n .pending) (n .seen) (n .known)
+
+abbrev pub withPending : Network → List ℕ → Network
+withPending n x = withAll n (n .present) (n .pubs) (n .subs) (n .neighbours) x (n .seen) (n .known)
+
+abbrev pub withSeen : Network → List ℕ → Network
+withSeen n x = withAll n (n .present) (n .pubs) (n .subs) (n .neighbours) (n .pending) x (n .known)
+
+abbrev pub withKnown : Network → List ℕ → Network
+withKnown n x = withAll n (n .present) (n .pubs) (n .subs) (n .neighbours) (n .pending) (n .seen) x
 
 -- The words: peer p's pubs, subs, neighbours, pending and seen; and where its known subscribers of topic t stand.
 abbrev pub pubsOf : Network → Peer → ℕ

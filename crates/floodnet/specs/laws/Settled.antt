@@ -38,7 +38,17 @@ same-arrays e =
 pub settled-step : (x y : Network) (d : Network → Network)
     → ((n : Network) → withAll n (x .present) (x .pubs) (x .subs) (x .neighbours) (x .pending) (x .seen) (x .known) ≡ d n)
     → ((n : Network) → withAll n (y .present) (y .pubs) (y .subs) (y .neighbours) (y .pending) (y .seen) (y .known) ≡ d n) → SameArrays x y
-settled-step x y d h k = same-arrays (settled (h bare) (k bare))
+settled-step x y d h k =
+    let s = same-arrays (settled (h bare) (k bare)) in
+    record {
+      present = s .present;
+      pubs = s .pubs;
+      subs = s .subs;
+      neighbours = s .neighbours;
+      pending = s .pending;
+      seen = s .seen;
+      known = s .known;
+    }
 
 -- `messages::forward`: the pending and the seen messages
 pub settled-messages : (e f g e′ f′ g′ : List ℕ) (d : Network → Network) → ((n : Network) → withMessages n e f g ≡ d n) → ((n : Network) → withMessages n e′ f′ g′ ≡ d n)

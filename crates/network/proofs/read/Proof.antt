@@ -1,7 +1,6 @@
 -- `network::read` meets its contract. Assumes nothing.
 use borrow.Author.Needs.{needs}
 use mathlib.Core.Path.{_≡_, _∙_}
-use Rattle.network.specs.laws.Network.{bare}
 use Rattle.network.specs.State.{unsoundAt}
 use Rattle.network.specs.laws.Opening.{unsound-is, open-1, open-5, open-0}
 use Rattle.network.proofs.read.Statement.{statement}
@@ -18,7 +17,7 @@ start c = c .before .before .before
 found : (c : tie.After-lowest-fault) → c .lowest-fault .result ≡ unsoundAt (start (loaded c .before) .args .state .now)
 found c =
     let n = loaded c in
-    unsound-is _ (n .before .words .ensures) (n .network .ensures) (c .lowest-fault .ensures bare)
+    unsound-is _ (n .before .words .ensures) (n .network .ensures) (c .lowest-fault .ensures (n .network .result))
 
 refused-requires : tie.Need-refused-requires
 refused-requires c κs = search needs

@@ -1,7 +1,6 @@
 -- `network::write` meets its contract. Assumes nothing.
 use borrow.Author.Needs.{needs}
 use mathlib.Core.Path.{_≡_, _∙_}
-use Rattle.network.specs.laws.Network.{bare}
 use Rattle.network.specs.Rules.{lowestFault}
 use Rattle.network.specs.laws.Faults.{lowest-tab}
 use Rattle.network.specs.laws.Writing.{write-1, write-5, write-0}
@@ -18,7 +17,7 @@ sound c = c .before .before
 
 -- what is found is the lowest unsound record
 found : (c : tie.After-lowest-fault) → c .lowest-fault .result ≡ lowestFault (headed c .before .before .before .args .t1)
-found c = c .lowest-fault .ensures bare ∙ lowest-tab _ _ (headed c .heads .ensures)
+found c = c .lowest-fault .ensures (headed c .before .before .before .args .t1) ∙ lowest-tab _ _ (headed c .heads .ensures)
 
 returns : tie.Need-returns
 returns c = write-1 _ _ (c .if1 .taken)

@@ -3,8 +3,9 @@ use borrow.Author.Needs.{needs}
 use Prim.Native.Nat.{_-_, _*_, _/_, _^_, _<_}
 use lib.ListN.{length}
 use native.Mathlib.Omega.{arith}
-use Rattle.network.specs.Network.{mk}
-use Rattle.network.specs.Network.{table}
+use Rattle.network.specs.declared.Network.{Network}
+use Rattle.network.specs.Network.{withAll, table}
+use Rattle.network.specs.laws.Network.{bare}
 use Rattle.events.specs.laws.ReadingLaws.{read-is}
 use Rattle.engine.specs.Run.{tally, zeroTally, runFrom, runAll}
 use Rattle.engine.specs.laws.RunSound.{reads-fit}
@@ -16,8 +17,8 @@ use Rattle.engine.proofs.running.run_parts.Tie as tie
 
 abbrev Inv-loop : tie.InvT-loop
 Inv-loop present₀ pubs₀ subs₀ neighbours₀ pending₀ seen₀ known₀ topics origins events produced₀ forwards₀ deliveries₀ count place₀ present pubs subs neighbours pending seen known produced forwards deliveries place =
-    Going events (table topics origins) count place (mk present pubs subs neighbours pending seen known) (tally produced forwards deliveries)
-    (runFrom count events 0 (table topics origins) (mk present₀ pubs₀ subs₀ neighbours₀ pending₀ seen₀ known₀) zeroTally)
+    (n : Network) → Going events (table topics origins) count place (withAll n present pubs subs neighbours pending seen known) (tally produced forwards deliveries)
+    (runFrom count events 0 (table topics origins) (withAll n present₀ pubs₀ subs₀ neighbours₀ pending₀ seen₀ known₀) zeroTally)
 
 abbrev μ-loop : tie.MeasureT-loop
 μ-loop present₀ pubs₀ subs₀ neighbours₀ pending₀ seen₀ known₀ topics origins events produced₀ forwards₀ deliveries₀ count place₀ present pubs subs neighbours pending seen known produced forwards deliveries place =
@@ -45,7 +46,7 @@ small : (h : tie.At-loop Inv-loop μ-loop) → 32 * (length (start h .args .even
 small h = omega (arith, start h .good .1 .1 .1 .1 .1 .1 .1 .1 .1 .0 .1)
 
 loop-holds : tie.Need-loop-holds Inv-loop μ-loop
-loop-holds c = going-start _ _ _ _
+loop-holds c = λ n. going-start _ _ _ _
 
 event-at-requires : tie.Need-event-at-requires Inv-loop μ-loop
 event-at-requires c κs = search needs
@@ -62,13 +63,13 @@ returns : tie.Need-returns Inv-loop μ-loop
 unfolding runAll
 returns c =
     let e = c .before .before .before in
-    runs-as (c .answer .ensures) (ran-stop _ _ _ (head e .loop .inv) (inside e .loop-test .taken) (read-is _ _ _ (e .event-at .ensures)) _ _ (c .before .before .turn .ensures) (c .before .if1 .taken))
+    λ n. runs-as (c .answer .ensures) (ran-stop _ _ _ (head e .loop .inv n) (inside e .loop-test .taken) (read-is _ _ _ (e .event-at .ensures)) _ _ (c .before .before .turn .ensures n) (c .before .if1 .taken))
 
 count-in-requires : tie.Need-count-in-requires Inv-loop μ-loop
 count-in-requires c κs =
     let u = turned c in
     let e = u .before in
-    going-room _ _ _ (head e .loop .inv) (inside e .loop-test .taken) (small (head e)) _ (u .turn .ensures .1 .1)
+    going-room _ _ _ (head e .loop .inv bare) (inside e .loop-test .taken) (small (head e)) _ (u .turn .ensures bare .1 .1)
 
 add-place : tie.Need-add-place Inv-loop μ-loop
 add-place c =
@@ -82,14 +83,14 @@ loop-again : tie.Need-loop-again Inv-loop μ-loop
 loop-again c =
     let u = turned (c .before) in
     let e = u .before in
-    ran-on _ _ _ (head e .loop .inv) (inside e .loop-test .taken) (read-is _ _ _ (e .event-at .ensures)) _ _ (u .turn .ensures) (accepted (c .before) .if1 .left) _ (c .count-in .ensures)
+    λ n. ran-on _ _ _ (head e .loop .inv n) (inside e .loop-test .taken) (read-is _ _ _ (e .event-at .ensures)) _ _ (u .turn .ensures n) (accepted (c .before) .if1 .left) _ (c .count-in .ensures)
 
 answer-requires-2 : tie.Need-answer-requires-2 Inv-loop μ-loop
 answer-requires-2 c κs = search needs
 
 returns-2 : tie.Need-returns-2 Inv-loop μ-loop
 unfolding runAll
-returns-2 c = runs-as (c .answer2 .ensures) (ran-end _ _ _ (c .before .before .loop .inv) (c .before .loop-test .left))
+returns-2 c = λ n. runs-as (c .answer2 .ensures) (ran-end _ _ _ (c .before .before .loop .inv n) (c .before .loop-test .left))
 
 pub run-parts-spec : {M : Type 1} → statement M
 run-parts-spec =

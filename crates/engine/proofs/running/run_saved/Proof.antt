@@ -1,5 +1,6 @@
 -- `engine::running::run_saved` meets its contract. Assumes nothing.
 use borrow.Author.Needs.{needs}
+use Rattle.network.specs.laws.Network.{bare}
 use Rattle.engine.proofs.RunEnds.{ends-written}
 use Rattle.engine.proofs.running.run_saved.Statement.{statement}
 use Rattle.engine.proofs.running.run_saved.Tie as tie
@@ -21,7 +22,7 @@ same-length : tie.Need-same-length
 same-length c = search needs
 
 returns : tie.Need-returns
-returns c = ends-written (ran (c .before .before) .run-parts .ensures) (c .before .before .save .ensures)
+returns c = ends-written (ran (c .before .before) .run-parts .ensures bare) (c .before .before .save .ensures)
 
 pub run-saved-spec : {M : Type 1} → statement M
 run-saved-spec =

@@ -7,7 +7,6 @@ use Prim.Native.Nat.{ℕ}
 use native.Mathlib.Omega.{arith}
 use types.Run.{OneOf}
 use denote.Enum.Declared.{tagOf}
-use Rattle.network.specs.laws.Network.{bare}
 use Rattle.events.specs.declared.Event.{Event}
 use Rattle.events.specs.declared.Read.{Read}
 use Rattle.events.specs.declared.Read.the-variants.{Taken}
@@ -44,12 +43,12 @@ refused-requires : tie.Need-refused-requires
 refused-requires c κs = search needs
 
 returns : tie.Need-returns
-returns c = let s = c .step .ensures in turn-taken _ _ _ _ (read (c .before) .read .given .1) (s .0 bare, (s .1 .0 bare, s .1 .1))
+returns c = let s = c .step .ensures in λ n. turn-taken _ _ _ _ (read (c .before) .read .given .1) (s .0 n, (s .1 .0 n, s .1 .1))
 
 returns-2 : tie.Need-returns-2
 returns-2 c =
     let m = c .before .before in
-    turn-none _ _ _ (m .before .args .read) (not-taken (m .match .keys2))
+    λ n. turn-none _ _ _ (m .before .args .read) (not-taken (m .match .keys2))
     (c .refused .ensures ∙ ap (λ (x : Reading). refusedBy (x .number)) (c .before .answered .ensures))
 
 pub turn-spec : {M : Type 1} → statement M

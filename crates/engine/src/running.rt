@@ -1,7 +1,6 @@
 // A run over a list of events: the network is taken apart, each event is taken through a reader and done on the lent parts, and
 // the lent counts are updated event by event.
 ghost use mathlib.Core.Path.{_≡_};
-ghost use Prim.Native.Nat.{_≤_};
 ghost use lib.ListN.{length};
 ghost use Rattle.network.specs.declared.Network.{Network};
 ghost use Rattle.network.specs.Network.{mk, withAll, table, Rows};

@@ -58,6 +58,13 @@ gives 1 examples/refused.out "$relay" examples/refused.relay
 gives 1 examples/accident.out "$relay" examples/accident.relay
 gives 2 examples/bad.out "$relay" examples/bad.relay
 gives 0 host/src/bin/relay/help.txt "$relay" --help
+cat >"$room/explained" <<'TEXT'
+14: leaver has something pending
+The place is the event. What to do: forward what is pending there, or drain, and let it leave then.
+TEXT
+gives 0 "$room/explained" "$relay" explain 14
+echo 'there is no number "20" to explain: numbers are 0 to 18 (docs/RULES.md, 6)' >"$room/explained"
+gives 2 "$room/explained" "$relay" explain 20
 
 # Text to records and back, and a state through files.
 examples=$PWD/examples docs=$PWD/docs

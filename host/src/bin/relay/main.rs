@@ -1,9 +1,10 @@
 //! The command-line tool: a relay network as plain text, on the proved engine. `relay --help` explains it.
 //!
-//! `command` reads a line, `session` does what it says, `show` and `words` put it into words, `picture` draws, `files`
-//! reads and writes.
+//! `command` reads a line, `session` does what it says, `show` and `words` put it into words, `explain` says what a number
+//! means, `picture` draws, `files` reads and writes.
 
 mod command;
+mod explain;
 mod files;
 mod picture;
 mod session;
@@ -29,6 +30,7 @@ fn main() -> ExitCode {
         ["--version"] => print(concat!("relay ", env!("CARGO_PKG_VERSION"), "\n")),
         ["encode", script, file] => encode(script, file),
         ["decode", file] => decode(file),
+        ["explain", number] => explain::explain(number).and_then(|text| print(&text)),
         [] | ["-v"] if io::stdin().is_terminal() => talk(!words.is_empty()),
         [] | ["-"] => run(STDIN, false),
         ["-v"] | ["-v", "-"] => run(STDIN, true),

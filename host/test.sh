@@ -84,6 +84,22 @@ gives 0 lines "$relay" decode records
 verdict $? "an event is 16 bytes"
 { cat lines; echo "events again"; echo "save state table"; echo "image image"; } | "$relay" >text.out
 same records again "events writes what encode writes"
+# A write is whole or not at all: with no room for a state the old file stays, and nothing is left beside it.
+cp state kept
+(ulimit -f 4; trap '' XFSZ; printf 'join 9\nsave kept\n' | "$relay") >full.out 2>&1
+[ $? -eq 2 ] && cmp state kept && grep -q "kept can't be written" full.out && [ -z "$(ls kept.* 2>/dev/null)" ]
+verdict $? "a write that fails leaves the old file"
+ln -s kept linked
+printf 'save linked\n' | "$relay" >link.out && [ -L linked ] && [ "$(wc -c <kept)" -eq 5120 ] && ! cmp -s state kept
+verdict $? "a link is written where it points"
+echo "standard input:1: state and table can't be saved to one file, one" >one.want
+printf 'save one one\n' >one.relay
+gives 2 one.want "$relay" - <one.relay
+cat >row.want <<'TEXT'
+standard input:3: the row of a message that desks have can't change; message 5 (topic 0, origin 0): pending at 0, seen by nobody
+TEXT
+printf 'join 0 pubs 0\nproduce 0 5\ntable 5 topic 1 origin 0\n' >row.relay
+gives 1 row.want "$relay" - <row.relay
 printf 'run records\nsave state.run table.run\nload state table\nsave state.load table.load\n' | "$relay" >run.out
 same state state.run "records run as the lines do"
 same state state.load "load and save keep a state"

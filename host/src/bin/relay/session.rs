@@ -3,12 +3,12 @@
 use crate::command::Command;
 use crate::{files, picture, show, words, HELP};
 use relay_host::event::{Event, RECORD};
-use relay_host::{Network, Reason, Refusal, Table, Tally};
+use relay_host::{Message, Network, Reason, Refusal, Row, Table, Tally};
 use std::io::{self, Write};
 
 /// Why a command could not be done.
 pub enum Trouble {
-    /// The engine refused.
+    /// An event, a state or a change was refused.
     Refused(String),
     /// The text or a file can't be used.
     Text(String),
@@ -79,7 +79,7 @@ impl Session {
         match command {
             Command::Event(event) => self.event(event, out)?,
             Command::Refused(reason, event) => self.refused(*reason, event, out)?,
-            Command::Table(message, row) => self.table.set(*message, *row),
+            Command::Table(message, row) => self.set_row(*message, *row)?,
             Command::Drain(budget) => self.drain(*budget, out)?,
             Command::Show(None) => write!(out, "{}", show::network(&self.network))?,
             Command::Show(Some(message)) => writeln!(out, "{}", words::message(&self.network, &self.table, *message))?,
@@ -146,6 +146,17 @@ impl Session {
         }
     }
 
+    /// A message that somebody holds or has seen keeps its topic and origin: a change would send it on to other desks.
+    fn set_row(&mut self, message: Message, row: Row) -> Result<(), Trouble> {
+        let (holding, seen) = self.network.holders(message);
+        if self.table.row(message) != row && !(holding.is_empty() && seen.is_empty()) {
+            let now = words::message(&self.network, &self.table, message);
+            return Err(Trouble::Refused(format!("the row of a message that desks have can't change; {now}")));
+        }
+        self.table.set(message, row);
+        Ok(())
+    }
+
     fn drain(&mut self, budget: u32, out: &mut dyn Write) -> Result<(), Trouble> {
         let drained = self.network.drain(&self.table, budget);
         self.drained |= drained.forwards > 0;
@@ -166,6 +177,9 @@ impl Session {
     }
 
     fn save(&self, state: &str, table: Option<&str>) -> Result<(), Trouble> {
+        if table.is_some_and(|table| files::same(state, table)) {
+            return Err(Trouble::Text(format!("state and table can't be saved to one file, {state}")));
+        }
         files::write(state, self.network.bytes())?;
         match table {
             Some(file) => files::write(file, self.table.bytes()),

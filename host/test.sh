@@ -84,6 +84,30 @@ gives 0 lines "$relay" decode records
 verdict $? "an event is 16 bytes"
 { cat lines; echo "events again"; echo "save state table"; echo "image image"; } | "$relay" >text.out
 same records again "events writes what encode writes"
+# What records can't say is refused, with the line; so are events whose message has got another row since.
+echo "lost.relay:4: events before this line go by another row, so event records can't say it" >lost.want
+printf 'join 0 pubs 0\nproduce 0 5\nforward 0 5\ntable 5 topic 1 origin 0\n' >lost.relay
+gives 2 lost.want "$relay" encode lost.relay lost.records
+echo "standard input:6: the events can't be written: a message that they name has got another row since" >lost.want
+printf 'join 0 pubs 0\nproduce 0 5\nforward 0 5\nleave 0\ntable 5 topic 1 origin 0\nevents lost.records\n' >lost.relay
+gives 2 lost.want "$relay" - <lost.relay
+
+# Text that can't be read is named; a mark before the text, capitals and another spelling are not in the way.
+echo "standard input:2: this isn't text: byte 7 of the file is 0xff" >text.want
+printf 'skip\nsk\377p\n' >text.relay
+gives 2 text.want "$relay" - <text.relay
+{ for line in $(seq 20); do echo "standard input:$line: there is no command \`explode\`; relay --help lists them"; done; echo "standard input: and 5 more"; } >text.want
+for line in $(seq 25); do echo explode; done >text.relay
+gives 2 text.want "$relay" - <text.relay
+echo 'relay: there is no option --frob; relay --help shows those there are' >text.want
+gives 2 text.want "$relay" --frob lines
+echo 'standard input:1: there is no command `\u{1b}[2J`; relay --help lists them' >text.want
+printf '\033[2J\n' >text.relay
+gives 2 text.want "$relay" - <text.relay
+echo 'done: 2 events accepted, nothing pending' >text.want
+printf '\357\273\277JOIN 0 Pubs 0\r\njoin 1 SUBS 0 neighbors 0\r\n' >text.relay
+gives 0 text.want "$relay" - <text.relay
+
 # A write is whole or not at all: with no room for a state the old file stays, and nothing is left beside it.
 cp state kept
 (ulimit -f 4; trap '' XFSZ; printf 'join 9\nsave kept\n' | "$relay") >full.out 2>&1

@@ -1,6 +1,6 @@
 //! Events as lines of text: `join 1 subs 0 neighbours 0`, `produce 0 5`, `subscribe 1 topics 0,2-4`.
 //!
-//! A set is numbers and ranges, with spaces or commas between them; `none` is the empty set.
+//! A set is numbers and ranges, with spaces or commas between them; `none` is the empty set. Capital letters and `neighbors` will do.
 
 use crate::event::{Event, Joining};
 use crate::numbers::{Number, Peer, Set, Topic};
@@ -22,6 +22,21 @@ impl Error for TextError {}
 
 fn fail<T>(message: String) -> Result<T, TextError> {
     Err(TextError(message))
+}
+
+/// A text that may come from anywhere, without what a terminal would obey: a control character stands as its code.
+pub fn plain(text: &str) -> String {
+    text.chars()
+        .map(|letter| if letter.is_control() { letter.escape_unicode().to_string() } else { letter.into() })
+        .collect()
+}
+
+/// A word as the rules of the text have it.
+fn usual(word: &str) -> String {
+    match word.to_ascii_lowercase() {
+        word if word == "neighbors" => "neighbours".into(),
+        word => word,
+    }
 }
 
 /// The events' names and forms.
@@ -68,7 +83,7 @@ impl<'a> Words<'a> {
 
     /// The next word, if it is this keyword.
     pub fn keyword(&mut self, keyword: &str) -> bool {
-        self.words.next_if_eq(&keyword).is_some()
+        self.words.next_if(|word| usual(word) == keyword).is_some()
     }
 
     /// A number of a sort.
@@ -77,21 +92,33 @@ impl<'a> Words<'a> {
         number(word)
     }
 
-    /// A set: all words up to one of the keywords or the end.
-    pub fn set<N: Number>(&mut self, keywords: &[&str]) -> Result<Set<N>, TextError> {
+    /// A set: all words up to one of the keywords or the end, and at least one. A comma may stand between two members, with or
+    /// without a space.
+    pub fn set<N: Number>(&mut self, what: &str, keywords: &[&str]) -> Result<Set<N>, TextError> {
         let mut set = Set::empty();
-        while let Some(word) = self.words.next_if(|word| !keywords.contains(word)) {
-            if word == "none" {
+        let mut words = 0;
+        let mut comma = false;
+        while let Some(word) = self.words.next_if(|word| !keywords.contains(&usual(word).as_str())) {
+            words += 1;
+            comma = word.ends_with(',');
+            if usual(word) == "none" {
                 continue;
             }
             if word.starts_with(char::is_alphabetic) {
                 return fail(format!("`{word}` is not expected here: {}", self.form));
             }
-            for part in word.split(',').filter(|part| !part.is_empty()) {
+            for part in word.strip_suffix(',').unwrap_or(word).split(',') {
+                if part.is_empty() {
+                    return fail(format!("`{word}` has a comma with no number before it"));
+                }
                 add_part(&mut set, part)?;
             }
         }
-        Ok(set)
+        match (words, comma) {
+            (0, _) => fail(format!("`{what}` has no set behind it; the empty one is `none`")),
+            (_, true) => fail(format!("the set behind `{what}` ends in a comma")),
+            (_, false) => Ok(set),
+        }
     }
 
     /// Nothing may follow.
@@ -104,11 +131,12 @@ impl<'a> Words<'a> {
 
     /// An event whose name has been taken; none if it is no event's name.
     pub fn event(&mut self, name: &str) -> Result<Option<Event>, TextError> {
+        let name = usual(name);
         let Some((_, form)) = FORMS.iter().find(|(event, _)| *event == name) else {
             return Ok(None);
         };
         self.form = form;
-        let event = match name {
+        let event = match name.as_str() {
             "skip" => Event::Skip,
             "produce" => Event::Produce(self.number()?, self.number()?),
             "forward" => Event::Forward(self.number()?, self.number()?),
@@ -125,7 +153,7 @@ impl<'a> Words<'a> {
         if !self.keyword("topics") {
             return fail(format!("`topics` is missing: {}", self.form));
         }
-        self.set(&[])
+        self.set("topics", &[])
     }
 
     /// The three sets of a join, in any order, each at most once.
@@ -133,10 +161,10 @@ impl<'a> Words<'a> {
         const KEYWORDS: [&str; 3] = ["subs", "pubs", "neighbours"];
         let (mut subs, mut pubs, mut neighbours) = (None, None, None);
         while let Some(word) = self.take() {
-            let twice = match word {
-                "subs" => subs.replace(self.set(&KEYWORDS)?).is_some(),
-                "pubs" => pubs.replace(self.set(&KEYWORDS)?).is_some(),
-                "neighbours" => neighbours.replace(self.set(&KEYWORDS)?).is_some(),
+            let twice = match usual(word).as_str() {
+                "subs" => subs.replace(self.set("subs", &KEYWORDS)?).is_some(),
+                "pubs" => pubs.replace(self.set("pubs", &KEYWORDS)?).is_some(),
+                "neighbours" => neighbours.replace(self.set("neighbours", &KEYWORDS)?).is_some(),
                 _ => return fail(format!("`{word}` is not expected here: {}", self.form)),
             };
             if twice {
@@ -226,7 +254,8 @@ mod tests {
         assert_eq!(event("  join 1 neighbours 0,2 pubs 7 subs 0 2 3 4   # a desk"), join);
         assert_eq!(event("join 1 subs 0, 2-4 pubs 7 neighbours 2 0 0"), join);
         assert_eq!(event("join 1 subs none"), event("join 1"));
-        assert_eq!(event("subscribe 1 topics"), event("subscribe 1 topics none"));
+        assert_eq!(event("JOIN 1 Subs 0,2-4 pubs 7 neighbors 0 2"), join);
+        assert_eq!(event("subscribe 1 TOPICS None"), event("subscribe 1 topics none"));
     }
 
     #[test]
@@ -243,8 +272,15 @@ mod tests {
         assert_eq!(message("join 1 subs 0 subs 1"), "`subs` is given twice");
         assert_eq!(message("join 1 sub 0"), format!("`sub` is not expected here: {}", FORMS[6].1));
         assert_eq!(message("join 1 subs 0 nieghbours 0"), format!("`nieghbours` is not expected here: {}", FORMS[6].1));
+        assert_eq!(message("join 1 subs"), "`subs` has no set behind it; the empty one is `none`");
+        assert_eq!(message("join 1 subs neighbours 0"), "`subs` has no set behind it; the empty one is `none`");
+        assert_eq!(message("subscribe 1 topics"), "`topics` has no set behind it; the empty one is `none`");
+        assert_eq!(message("subscribe 1 topics 1,,2"), "`1,,2` has a comma with no number before it");
+        assert_eq!(message("subscribe 1 topics ,2"), "`,2` has a comma with no number before it");
+        assert_eq!(message("subscribe 1 topics 1, 2,"), "the set behind `topics` ends in a comma");
         assert_eq!(message("join 1 subs -5"), "`-5` is no topic number: topics are 0 to 31");
         assert_eq!(message("jump 1"), "`jump` is no event");
+        assert_eq!(plain("a\u{1b}[2Jb\u{7}"), "a\\u{1b}[2Jb\\u{7}");
         assert_eq!(message("# nothing"), "the event is missing: an event");
     }
 }

@@ -1,6 +1,6 @@
 //! The commands of the tool, and how a line of text becomes one.
 
-use relay_host::text::{TextError, Words, FORMS};
+use relay_host::text::{plain, TextError, Words, FORMS};
 use relay_host::{Event, Message, Reason, Row, ENOUGH};
 
 #[derive(Clone, Debug, PartialEq, Eq)]
@@ -54,14 +54,14 @@ impl Command {
         let Some(name) = words.take() else {
             return Ok(None);
         };
-        if name == "say" {
+        if name.eq_ignore_ascii_case("say") {
             let said = line.trim().strip_prefix(name).unwrap_or_default();
-            return Ok(Some(Command::Say(said.trim().to_string())));
+            return Ok(Some(Command::Say(plain(said.trim()))));
         }
         if let Some(event) = words.event(name)? {
             return Ok(Some(Command::Event(event)));
         }
-        let Some((_, form)) = OTHERS.iter().find(|(other, _)| *other == name) else {
+        let Some((name, form)) = OTHERS.iter().find(|(other, _)| other.eq_ignore_ascii_case(name)) else {
             return fail(unknown(name));
         };
         words.expect_form(form);
@@ -114,7 +114,7 @@ fn table(words: &mut Words) -> Result<Command, TextError> {
 
 fn keyword(words: &mut Words, keyword: &str) -> Result<(), TextError> {
     match words.need(&format!("`{keyword}`"))? {
-        word if word == keyword => Ok(()),
+        word if word.eq_ignore_ascii_case(keyword) => Ok(()),
         word => fail(format!("`{keyword}` is expected where `{word}` stands")),
     }
 }
@@ -197,7 +197,8 @@ mod tests {
         assert_eq!(command("skip # a comment"), Command::Event(Event::Skip));
         assert_eq!(command("table 5 topic 1 origin 2"), Command::Table(five.unwrap(), row));
         assert_eq!(command("drain"), Command::Drain(2048));
-        assert_eq!(command("drain 0"), Command::Drain(0));
+        assert_eq!(command("DRAIN 0"), Command::Drain(0));
+        assert_eq!(command("Table 5 Topic 1 ORIGIN 2"), command("table 5 topic 1 origin 2"));
         assert_eq!(command("show message 5"), Command::Show(five));
         assert_eq!(command("picture a.svg message 5"), Command::Picture("a.svg".into(), five));
         assert_eq!(command("load s"), Command::Load("s".into(), None));

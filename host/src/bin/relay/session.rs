@@ -3,7 +3,8 @@
 use crate::command::Command;
 use crate::{files, picture, show, words, HELP};
 use relay_host::event::{Event, RECORD};
-use relay_host::{Message, Network, Reason, Refusal, Row, Table, Tally};
+use relay_host::text::plain;
+use relay_host::{Message, Network, Reason, Refusal, Row, Set, Table, Tally};
 use std::io::{self, Write};
 
 /// Why a command could not be done.
@@ -49,6 +50,27 @@ impl From<io::Error> for Trouble {
     }
 }
 
+/// The messages that events have named.
+pub struct Named(Set<Message>);
+
+impl Default for Named {
+    fn default() -> Named {
+        Named(Set::empty())
+    }
+}
+
+impl Named {
+    pub fn note(&mut self, event: &Event) {
+        if let Event::Produce(_, message) | Event::Forward(_, message) = event {
+            self.0.insert(*message);
+        }
+    }
+
+    pub fn has(&self, message: Message) -> bool {
+        self.0.has(message)
+    }
+}
+
 pub struct Session {
     network: Network,
     table: Table,
@@ -56,8 +78,10 @@ pub struct Session {
     records: Vec<u8>,
     /// Their tally.
     tally: Tally,
-    /// Was there a drain among them? It is no event.
-    drained: bool,
+    /// The messages that they name.
+    named: Named,
+    /// Why records can't say them all, if so.
+    unsaid: Option<&'static str>,
     /// Tell each event?
     aloud: bool,
 }
@@ -69,7 +93,8 @@ impl Session {
             table: Table::zero(),
             records: Vec::new(),
             tally: Tally::default(),
-            drained: false,
+            named: Named::default(),
+            unsaid: None,
             aloud,
         }
     }
@@ -116,6 +141,7 @@ impl Session {
         match self.network.apply(&self.table, event) {
             Ok(tally) => {
                 self.records.extend(event.encode());
+                self.named.note(event);
                 self.tally += tally;
                 if self.aloud {
                     writeln!(out, "{}", words::accepted(event, &tally))?;
@@ -153,13 +179,18 @@ impl Session {
             let now = words::message(&self.network, &self.table, message);
             return Err(Trouble::Refused(format!("the row of a message that desks have can't change; {now}")));
         }
+        if self.table.row(message) != row && self.named.has(message) {
+            self.unsaid = self.unsaid.or(Some("a message that they name has got another row since"));
+        }
         self.table.set(message, row);
         Ok(())
     }
 
     fn drain(&mut self, budget: u32, out: &mut dyn Write) -> Result<(), Trouble> {
         let drained = self.network.drain(&self.table, budget);
-        self.drained |= drained.forwards > 0;
+        if drained.forwards > 0 {
+            self.unsaid = self.unsaid.or(Some("there was a drain among them, which is no event"));
+        }
         writeln!(out, "{}", words::drained(budget, &drained))?;
         Ok(())
     }
@@ -192,9 +223,14 @@ impl Session {
         let records = files::read(file)?;
         let run = self.network.run_records(&self.table, &records);
         self.records.extend(&records[..run.accepted * RECORD]);
+        for record in records[..run.accepted * RECORD].chunks_exact(RECORD) {
+            if let Some(Ok(event)) = record.first_chunk().map(Event::decode) {
+                self.named.note(&event);
+            }
+        }
         self.tally += run.tally;
         let Some(refusal) = run.refusal else {
-            return Ok(writeln!(out, "{file}: {}", words::events(run.accepted))?);
+            return Ok(writeln!(out, "{}: {}", plain(file), words::events(run.accepted))?);
         };
         let said = match records[run.accepted * RECORD..].first_chunk() {
             Some(record) if refusal.reason.place_of() == Some("event") => match Event::decode(record) {
@@ -207,9 +243,8 @@ impl Session {
     }
 
     fn write_events(&self, file: &str) -> Result<(), Trouble> {
-        if self.drained {
-            let message = "the events can't be written: there was a drain among them, which is no event";
-            return Err(Trouble::Text(message.into()));
+        if let Some(why) = self.unsaid {
+            return Err(Trouble::Text(format!("the events can't be written: {why}")));
         }
         files::write(file, &self.records)
     }

@@ -36,6 +36,14 @@ gives() { # STATUS FILE COMMAND...
     verdict $? "$*"
 }
 
+# Gives the tool a script on standard input, in printf's form; what it says and its status must be as said.
+says() { # STATUS TEXT SCRIPT
+    printf '%s\n' "$2" >"$room/said"
+    # shellcheck disable=SC2059
+    printf "$3" >"$room/script"
+    gives "$1" "$room/said" "$relay" - <"$room/script"
+}
+
 # Two files must be equal.
 same() { # FILE FILE WHAT
     cmp "$1" "$2"
@@ -85,28 +93,20 @@ verdict $? "an event is 16 bytes"
 { cat lines; echo "events again"; echo "save state table"; echo "image image"; } | "$relay" >text.out
 same records again "events writes what encode writes"
 # What records can't say is refused, with the line; so are events whose message has got another row since.
-echo "lost.relay:4: events before this line go by another row, so event records can't say it" >lost.want
+echo "lost.relay:4: events before this line name this message, so event records can't say it" >want
 printf 'join 0 pubs 0\nproduce 0 5\nforward 0 5\ntable 5 topic 1 origin 0\n' >lost.relay
-gives 2 lost.want "$relay" encode lost.relay lost.records
-echo "standard input:6: the events can't be written: a message that they name has got another row since" >lost.want
-printf 'join 0 pubs 0\nproduce 0 5\nforward 0 5\nleave 0\ntable 5 topic 1 origin 0\nevents lost.records\n' >lost.relay
-gives 2 lost.want "$relay" - <lost.relay
+gives 2 want "$relay" encode lost.relay lost.records
+says 2 "standard input:6: the events can't be written: a message that they name has got another row since" \
+    'join 0 pubs 0\nproduce 0 5\nforward 0 5\nleave 0\ntable 5 topic 1 origin 0\nevents lost.records\n'
 
 # Text that can't be read is named; a mark before the text, capitals and another spelling are not in the way.
-echo "standard input:2: this isn't text: byte 7 of the file is 0xff" >text.want
-printf 'skip\nsk\377p\n' >text.relay
-gives 2 text.want "$relay" - <text.relay
-{ for line in $(seq 20); do echo "standard input:$line: there is no command \`explode\`; relay --help lists them"; done; echo "standard input: and 5 more"; } >text.want
-for line in $(seq 25); do echo explode; done >text.relay
-gives 2 text.want "$relay" - <text.relay
-echo 'relay: there is no option --frob; relay --help shows those there are' >text.want
-gives 2 text.want "$relay" --frob lines
-echo 'standard input:1: there is no command `\u{1b}[2J`; relay --help lists them' >text.want
-printf '\033[2J\n' >text.relay
-gives 2 text.want "$relay" - <text.relay
-echo 'done: 2 events accepted, nothing pending' >text.want
-printf '\357\273\277JOIN 0 Pubs 0\r\njoin 1 SUBS 0 neighbors 0\r\n' >text.relay
-gives 0 text.want "$relay" - <text.relay
+says 2 "standard input:2: this isn't text: byte 7 of the file is 0xff" 'skip\nsk\377p\n'
+says 2 'standard input:1: there is no command `\u{1b}[2J`; relay --help lists them' '\033[2J\n'
+says 0 'done: 2 events accepted, nothing pending' '\357\273\277JOIN 0 Pubs 0\r\njoin 1 SUBS 0 neighbors 0\r\n'
+says 2 "$(for line in $(seq 20); do echo "standard input:$line: there is no command \`explode\`; relay --help lists them"; done
+    echo "standard input: and 5 more")" "$(for line in $(seq 25); do echo explode; done)"
+echo 'relay: there is no option --frob; relay --help shows those there are' >want
+gives 2 want "$relay" --frob lines
 
 # A write is whole or not at all: with no room for a state the old file stays, and nothing is left beside it.
 cp state kept
@@ -116,14 +116,9 @@ verdict $? "a write that fails leaves the old file"
 ln -s kept linked
 printf 'save linked\n' | "$relay" >link.out && [ -L linked ] && [ "$(wc -c <kept)" -eq 5120 ] && ! cmp -s state kept
 verdict $? "a link is written where it points"
-echo "standard input:1: state and table can't be saved to one file, one" >one.want
-printf 'save one one\n' >one.relay
-gives 2 one.want "$relay" - <one.relay
-cat >row.want <<'TEXT'
-standard input:3: the row of a message that desks have can't change; message 5 (topic 0, origin 0): pending at 0, seen by nobody
-TEXT
-printf 'join 0 pubs 0\nproduce 0 5\ntable 5 topic 1 origin 0\n' >row.relay
-gives 1 row.want "$relay" - <row.relay
+says 2 "standard input:1: state and table can't be saved to one file, one" 'save one one\n'
+says 1 "standard input:3: the row of a message that desks have can't change; message 5 (topic 0, origin 0): pending at 0, seen by nobody" \
+    'join 0 pubs 0\nproduce 0 5\ntable 5 topic 1 origin 0\n'
 printf 'run records\nsave state.run table.run\nload state table\nsave state.load table.load\n' | "$relay" >run.out
 same state state.run "records run as the lines do"
 same state state.load "load and save keep a state"

@@ -22,7 +22,7 @@ pub fn same(one: &str, other: &str) -> bool {
     }
 }
 
-/// A pipe or a device is written as it is; a link keeps pointing where it did; a file keeps its permissions.
+/// A pipe or a device is written as it is; a link to a file keeps pointing there; a file keeps its permissions.
 fn replace(name: &Path, bytes: &[u8]) -> io::Result<()> {
     let old = fs::metadata(name).ok();
     if old.as_ref().is_some_and(|old| !old.is_file()) {

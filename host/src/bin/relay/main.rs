@@ -169,7 +169,7 @@ fn encode(script: &str, file: &str) -> Result<(), Trouble> {
                 None
             }
             Command::Drain(_) | Command::Run(_) => Some("this line changes the network and is no event"),
-            Command::Table(message, _) if named.has(message) => Some("events before this line go by another row"),
+            Command::Table(message, _) if named.has(message) => Some("events before this line name this message"),
             Command::Blank | Command::Load(..) => {
                 (records, named, lost) = Default::default();
                 None

@@ -14,7 +14,7 @@ use Rattle.engine.specs.Run.{answered, Final, ran, runAll, RunsTo, writt
 
 -- refused before any event
 pub ends-refused : (s t ev : List ℕ) (old : Tally) {g : Begun} → g ≡ beginOf s t (length ev) → (g .number ≡ 0 → ⊥)
-    → {r : Answer} → r ≡ answered (g .number) (g .place) 0 → Ends r s old (runOf s t ev old)
+    → {r : Answer} → r ≡ answered (g .number) (g .place) (g .detail) 0 → Ends r s old (runOf s t ev old)
 unfolding runOf
 ends-refused s t ev old {g} e h a =
     rw (← e, ne-eqb h) (record { answer = a; state = refl; tally = refl })

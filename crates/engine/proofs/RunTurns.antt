@@ -16,7 +16,7 @@ use Rattle.engine.proofs.RunLoop.{Going, going-on, going-stop, going-en
 use Rattle.engine.proofs.TurnLaws.{refused-same}
 
 abbrev pub ranAt : ℕ → ℕ → ℕ → Network → Ran
-ranAt number place accepted n = record { answer = record { number = number; place = place; accepted = accepted }; network = n }
+ranAt number place accepted n = record { answer = answered number place 0 accepted; network = n }
 
 module _ (ev : List ℕ) (b : Table) (count : ℕ) {place : ℕ} {n : Network} {t : Tally} {f : Final} (g : Going ev b count place n t f) where
   -- an event is refused: the run stops

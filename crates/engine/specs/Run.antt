@@ -2,7 +2,7 @@
 --   "Then events from place 0, each tested 6, 7, then its conditions. At the first refusal the run stops; the state buffer
 --   holds the state after the accepted events."
 --   "The host lends a tally record that the engine updates event by event: produced, forwards, deliveries, 64 bits each. It
---   starts from zero in each run that gets past 5."
+--   starts from zero in each run that gets past" the refusals before any event.
 use mathlib.Core.Path.{_≡_}
 use mathlib.Core.Bool.{cond}
 use mathlib.Core.List.{List}
@@ -74,9 +74,9 @@ Turn b n read m r = (m ≡ turnOf b n read .network) × ((r ≡ turnOf b n read 
 
 -- ---- a run
 
--- "The answer of a run is a number, a place and the count of accepted events."
-abbrev pub answered : ℕ → ℕ → ℕ → Answer
-answered number place accepted = record { number = number; place = place; accepted = accepted }
+-- "The answer of a run is a number, a place and the count of accepted events"; and E1's detail, 0 where an event is refused or none.
+abbrev pub answered : ℕ → ℕ → ℕ → ℕ → Answer
+answered number place detail accepted = record { number = number; detail = detail; place = place; accepted = accepted }
 
 -- how a run ended: its answer, the tally and the network
 pub record Final : Type 0 where
@@ -86,10 +86,10 @@ pub record Final : Type 0 where
 
 -- the run stops at a refused event; all events are done
 abbrev pub stopsAt : ℕ → ℕ → Tally → Network → Final
-stopsAt number place t n = record { answer = record { number = number; place = place; accepted = place }; tally = t; network = n }
+stopsAt number place t n = record { answer = answered number place 0 place; tally = t; network = n }
 
 abbrev pub allDone : ℕ → Tally → Network → Final
-allDone count t n = record { answer = record { number = 0; place = 0; accepted = count }; tally = t; network = n }
+allDone count t n = record { answer = answered 0 0 0 count; tally = t; network = n }
 
 -- k events from place on
 unfoldable pub runFrom : ℕ → List ℕ → ℕ → Table → Network → Tally → Final
@@ -124,7 +124,7 @@ pub record Ending : Type 0 where
 
 -- refused before any event: "the accepted count is 0 and all buffers, the tally included, stay untouched"
 abbrev pub untouched : Begun → Tally → List ℕ → Ending
-untouched g old s = record { answer = record { number = g .number; place = g .place; accepted = 0 }; tally = old; state = s }
+untouched g old s = record { answer = answered (g .number) (g .place) (g .detail) 0; tally = old; state = s }
 
 abbrev pub written : Final → Ending
 written f = record { answer = f .answer; tally = f .tally; state = bytesOf (f .network) }

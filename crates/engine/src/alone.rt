@@ -4,7 +4,7 @@ ghost use mathlib.Core.List.{List};
 ghost use Prim.Native.Nat.{ℕ, _<_};
 ghost use lib.ListN.{length, getD};
 ghost use Rattle.network.specs.Network.{mk, table};
-ghost use Rattle.network.specs.State.{checked};
+ghost use Rattle.network.specs.Rules.{checked};
 ghost use Rattle.engine.specs.Alone.{checkOf, copyOf, copiedOf, forwardOn, forwardOf};
 ghost use Rattle.engine.specs.Alone.{forwardedBy, Gives};
 use crate::Forwarded;
@@ -14,13 +14,17 @@ use network::Message;
 use network::Peer;
 
 // The answer of an entry point that only reads or writes.
-pub(crate) fn answer(number: u8, place: usize) -> Checked
-    ensures { λ r. ⌜ r ≡ checked number place ⌝ }
+pub(crate) fn answer(number: u8, place: usize, detail: u8) -> Checked
+    ensures { λ r. ⌜ r ≡ checked number place detail ⌝ }
 {
-    Checked { number, place }
+    Checked {
+        number,
+        detail,
+        place,
+    }
 }
 
-// "Reading [..] refuse[s] by 1, then 5, and by nothing else".
+// "Reading [..] refuse[s] by 1, then" 20 to 26, "and by nothing else".
 #[no_mangle]
 pub extern "C" fn relay_check(state: &[u8]) -> Checked
     ensures { λ r. ⌜ r ≡ checkOf (now (state .entry)) ⌝ }
@@ -40,7 +44,7 @@ pub extern "C" fn relay_check(state: &[u8]) -> Checked
         &mut seen,
         &mut known,
     );
-    answer(opened.number, opened.place)
+    answer(opened.number, opened.place, opened.detail)
 }
 
 // Reads a state and writes it to another buffer; a refusal leaves that buffer untouched.
@@ -64,10 +68,10 @@ pub extern "C" fn relay_copy(from: &[u8], to: &mut [u8]) -> Checked
         &mut known,
     );
     if opened.number != 0 {
-        return answer(opened.number, opened.place);
+        return answer(opened.number, opened.place, opened.detail);
     }
     if to.len() != 5120 {
-        return answer(1, 0);
+        return answer(1, 0, 0);
     }
     network::save(
         opened.present,
@@ -79,15 +83,16 @@ pub extern "C" fn relay_copy(from: &[u8], to: &mut [u8]) -> Checked
         &known,
         to,
     );
-    answer(0, 0)
+    answer(0, 0, 0)
 }
 
 // The answer of a single forward; a refused one delivers nothing.
-fn forwarded(number: u8, place: usize, deliveries: u32) -> Forwarded
-    ensures { λ r. ⌜ r ≡ forwardedBy number place deliveries ⌝ }
+fn forwarded(number: u8, place: usize, detail: u8, deliveries: u32) -> Forwarded
+    ensures { λ r. ⌜ r ≡ forwardedBy number place detail deliveries ⌝ }
 {
     Forwarded {
         number,
+        detail,
         place,
         deliveries,
     }
@@ -113,10 +118,10 @@ fn forward_saved<'a>(
         (now (known .entry))) (table (now (topics .entry)) origins) peer message)) ⌝ }
 {
     if peer > 31 {
-        return forwarded(7, 0, 0);
+        return forwarded(7, 0, 0, 0);
     }
     if message > 63 {
-        return forwarded(7, 0, 0);
+        return forwarded(7, 0, 0, 0);
     }
     let turned = floodnet::turns::forward(
         present,
@@ -128,7 +133,7 @@ fn forward_saved<'a>(
         Message(message),
     );
     if turned.number != 0 {
-        return forwarded(turned.number, 0, 0);
+        return forwarded(turned.number, 0, 0, 0);
     }
     network::save(
         present,
@@ -140,11 +145,11 @@ fn forward_saved<'a>(
         &*known,
         &mut *state,
     );
-    forwarded(0, 0, turned.deliveries)
+    forwarded(0, 0, 0, turned.deliveries)
 }
 
-// "Called alone on a state, table, peer and message, it refuses by 1, 2, 4, 5, 7, 8, 13 in this order, place 0 for the last three,
-// buffers untouched"; it answers the number of deliveries.
+// "Called alone on a state, table, peer and message, it refuses by 1, 2, 4," 20 to 26, "7, 8, 13 in this order, place 0 for the last
+// three, buffers untouched"; it answers the number of deliveries.
 #[no_mangle]
 pub extern "C" fn relay_forward(state: &mut [u8], table: &[u8], peer: u8, message: u8) -> Forwarded
     ensures { λ r. ⌜ (r ≡ forwardOf (now (state .entry)) (now (table .entry)) peer message .answer) ×
@@ -168,7 +173,7 @@ pub extern "C" fn relay_forward(state: &mut [u8], table: &[u8], peer: u8, messag
         &mut known,
     );
     if begun.number != 0 {
-        return forwarded(begun.number, begun.place, 0);
+        return forwarded(begun.number, begun.place, begun.detail, 0);
     }
     let rows = begun.table;
     let topics = rows.topics;

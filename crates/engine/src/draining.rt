@@ -5,11 +5,12 @@ use crate::Drained;
 use crate::start;
 
 // Nothing was drained.
-fn refused(number: u8, place: usize) -> Drained
-    ensures { λ r. ⌜ r ≡ refusedDrain number place ⌝ }
+fn refused(number: u8, place: usize, detail: u8) -> Drained
+    ensures { λ r. ⌜ r ≡ refusedDrain number place detail ⌝ }
 {
     Drained {
         number,
+        detail,
         place,
         forwards: 0,
         rounds: 0,
@@ -19,10 +20,11 @@ fn refused(number: u8, place: usize) -> Drained
 
 // What the drain answered.
 fn done(d: drain::Drains) -> Drained
-    ensures { λ r. ⌜ r ≡ drained 0 0 (d .forwards) (d .rounds) (d .quiet) ⌝ }
+    ensures { λ r. ⌜ r ≡ drained (d .forwards) (d .rounds) (d .quiet) ⌝ }
 {
     Drained {
         number: 0,
+        detail: 0,
         place: 0,
         forwards: d.forwards,
         rounds: d.rounds,
@@ -55,7 +57,7 @@ pub extern "C" fn relay_drain(state: &mut [u8], table: &[u8], budget: u32) -> Dr
         &mut known,
     );
     if begun.number != 0 {
-        return refused(begun.number, begun.place);
+        return refused(begun.number, begun.place, begun.detail);
     }
     let rows = begun.table;
     let topics = rows.topics;

@@ -4,7 +4,7 @@ ghost use Rattle.engine.specs.Imaging.{imageAnswerOf, imagedOf};
 use crate::alone;
 use network::Checked;
 
-// "Refusals 1, 5, 18 in that order leave both buffers untouched; the state is never written."
+// "Refusals 1," 20 to 26, "18 in that order leave both buffers untouched; the state is never written."
 #[no_mangle]
 pub extern "C" fn relay_image(state: &[u8], image: &mut [u8]) -> Checked
     ensures { λ r. ⌜ (r ≡ imageAnswerOf (now (state .entry)) (now (image .entry))) ×
@@ -26,10 +26,10 @@ pub extern "C" fn relay_image(state: &[u8], image: &mut [u8]) -> Checked
         &mut known,
     );
     if opened.number != 0 {
-        return alone::answer(opened.number, opened.place);
+        return alone::answer(opened.number, opened.place, opened.detail);
     }
     if image.len() != 5120 {
-        return alone::answer(18, 0);
+        return alone::answer(18, 0, 0);
     }
     let settled = broadcastnet::settled(seen, broadcastnet::underway(pending));
     let none = [0u32; 32];
@@ -45,5 +45,5 @@ pub extern "C" fn relay_image(state: &[u8], image: &mut [u8]) -> Checked
         &unknown,
         image,
     );
-    alone::answer(0, 0)
+    alone::answer(0, 0, 0)
 }

@@ -2,7 +2,7 @@
 // relay_image, relay_check and relay_copy. Each takes arbitrary bytes and asks nothing; its promise is an equation that fixes the
 // answer and each lent byte, on acceptance and refusal alike.
 //
-// Read specs/Start.antt (the refusals 1 to 5), specs/Run.antt (a run), specs/Alone.antt (the single forward, reading, writing),
+// Read specs/Start.antt (the refusals before any event), specs/Run.antt (a run), specs/Alone.antt (the single forward, reading, writing),
 // specs/Draining.antt and specs/Imaging.antt. What follows from the promises, on bytes, is the crate pages. specs/laws/ has laws that others
 // cite (RunCounts.antt: what a run counts; RunSound.antt: soundness, and the pairs pending balance), proofs/ those of the functions' proofs;
 // proofs/relay_run is a walk by hand.
@@ -11,7 +11,7 @@ mod counts; // counts.rt: the update of the tally
 mod draining; // draining.rt: the drain by rounds
 mod imaging; // imaging.rt: the image of a state, written to a second buffer
 pub mod running; // running.rt: a run over a list of events
-pub mod start; // start.rt: the refusals 1 to 5
+pub mod start; // start.rt: the refusals before any event
 
 ghost use Rattle.engine.specs.Run.{runOf, Ends};
 use network::Network;
@@ -25,10 +25,12 @@ pub struct Tally {
     pub deliveries: u64,
 }
 
-// The answer of a run: "a number, a place and the count of accepted events".
+// The answer of a run: "a number, a place and the count of accepted events". In this and the following answers the detail, document 02's E1,
+// lies where C has padding: the lowest peer or topic at fault where the number is 23 to 25, else 0.
 #[repr(C)]
 pub struct Answer {
     pub number: u8,
+    pub detail: u8,
     pub place: usize,
     pub accepted: usize,
 }
@@ -37,6 +39,7 @@ pub struct Answer {
 #[repr(C)]
 pub struct Forwarded {
     pub number: u8,
+    pub detail: u8,
     pub place: usize,
     pub deliveries: u32,
 }
@@ -45,16 +48,18 @@ pub struct Forwarded {
 #[repr(C)]
 pub struct Drained {
     pub number: u8,
+    pub detail: u8,
     pub place: usize,
     pub forwards: u32,
     pub rounds: u32,
     pub quiet: bool,
 }
 
-// What an entry point begins with: 0 and what was read, or the number and place of a refusal.
+// What an entry point begins with: zeros and what was read, or the number, place and detail of a refusal.
 pub struct Begun {
     pub number: u8,
     pub place: usize,
+    pub detail: u8,
     pub network: Network,
     pub table: Table,
 }
@@ -63,6 +68,7 @@ pub struct Begun {
 pub struct Started {
     pub number: u8,
     pub place: usize,
+    pub detail: u8,
     pub present: u32,
     pub table: Table,
 }

@@ -65,11 +65,12 @@ fn turn(
 }
 
 // The answer of a run.
-fn answer(number: u8, place: usize, accepted: usize) -> Answer
-    ensures { λ r. ⌜ r ≡ answered number place accepted ⌝ }
+fn answer(number: u8, place: usize, detail: u8, accepted: usize) -> Answer
+    ensures { λ r. ⌜ r ≡ answered number place detail accepted ⌝ }
 {
     Answer {
         number,
+        detail,
         place,
         accepted,
     }
@@ -119,7 +120,7 @@ pub(crate) fn run_parts(
         );
         let number = turned.number;
         if number != 0 {
-            return answer(number, place, place);
+            return answer(number, place, 0, place);
         }
         let kind = turned.kind;
         counts::count_in(
@@ -131,7 +132,7 @@ pub(crate) fn run_parts(
         );
         place += 1;
     }
-    answer(0, 0, place)
+    answer(0, 0, 0, place)
 }
 
 // The same from a network by value.
@@ -269,7 +270,7 @@ pub(crate) fn run_core(
         &mut known,
     );
     if begun.number != 0 {
-        return answer(begun.number, begun.place, 0);
+        return answer(begun.number, begun.place, begun.detail, 0);
     }
     let topics = begun.table.topics;
     let origins = begun.table.origins;

@@ -1,4 +1,4 @@
-// What every entry point tests before it begins: the refusals 1 to 5, in order.
+// What every entry point tests before it begins: the refusals 1 to 4, then 20 to 26, in order.
 ghost use mathlib.Core.Path.{_≡_};
 ghost use lib.ListN.{length};
 ghost use Rattle.network.specs.Network.{mk};
@@ -9,13 +9,14 @@ use network::Network;
 use network::Table;
 
 // Nothing was read.
-fn refused(number: u8, place: usize) -> Begun
-    ensures { λ r. ⌜ r ≡ refusedAt number place ⌝ }
+fn refused(number: u8, place: usize, detail: u8) -> Begun
+    ensures { λ r. ⌜ r ≡ refusedAt number place detail ⌝ }
 {
     let network = network::blank();
     Begun {
         number,
         place,
+        detail,
         network,
         table: Table {
             topics: [0u8; 64],
@@ -25,12 +26,13 @@ fn refused(number: u8, place: usize) -> Begun
 }
 
 // The same, where arrays are lent.
-fn unstarted(number: u8, place: usize) -> Started
-    ensures { λ r. ⌜ r ≡ unstartedAt number place ⌝ }
+fn unstarted(number: u8, place: usize, detail: u8) -> Started
+    ensures { λ r. ⌜ r ≡ unstartedAt number place detail ⌝ }
 {
     Started {
         number,
         place,
+        detail,
         present: 0,
         table: Table {
             topics: [0u8; 64],
@@ -57,17 +59,17 @@ pub(crate) fn start(
         (now (known .exit))) ≡ beginOf (now (state .entry)) (now (table .entry)) events ⌝ }
 {
     if state.len() != 5120 {
-        return unstarted(1, 0);
+        return unstarted(1, 0, 0);
     }
     if table.len() != 256 {
-        return unstarted(2, 0);
+        return unstarted(2, 0, 0);
     }
     if events % 16 != 0 {
-        return unstarted(3, 0);
+        return unstarted(3, 0, 0);
     }
     let listed = network::read_table(table);
     if listed.number != 0 {
-        return unstarted(listed.number, listed.place);
+        return unstarted(listed.number, listed.place, 0);
     }
     let looked = network::open(
         state,
@@ -79,12 +81,13 @@ pub(crate) fn start(
         &mut *known,
     );
     if looked.number != 0 {
-        return unstarted(looked.number, looked.place);
+        return unstarted(looked.number, looked.place, looked.detail);
     }
     let rows = listed.table;
     Started {
         number: 0,
         place: 0,
+        detail: 0,
         present: looked.present,
         table: rows,
     }
@@ -112,12 +115,13 @@ pub fn begin(state: &[u8], table: &[u8], events: usize) -> Begun
         &mut known,
     );
     if started.number != 0 {
-        return refused(started.number, started.place);
+        return refused(started.number, started.place, started.detail);
     }
     let rows = started.table;
     Begun {
         number: started.number,
         place: started.place,
+        detail: started.detail,
         network: Network {
             present: started.present,
             pubs,

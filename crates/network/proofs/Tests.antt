@@ -1,8 +1,8 @@
 -- Laws of specs/Tests.antt. Assumes nothing.
 use mathlib.Core.Path.{_≡_, sym, ap, _∙_}
-use mathlib.Core.Bool.{Bool, true, false, not, _&&_, _||_, and-comm, and-true, and-false}
+use mathlib.Core.Bool.{Bool, true, false, not, _&&_, and-comm, and-true, and-false}
 use mathlib.Core.List.{List}
-use Prim.Native.Nat.{ℕ, _+_, _^_, _<_}
+use Prim.Native.Nat.{ℕ, _+_, _^_, _≤_, _<_}
 use lib.Dec.{eqb}
 use lib.ListN.{getD}
 use borrow.Author.Tests.{eq-eqb, eqb-true}
@@ -11,17 +11,17 @@ use Rattle.sets.specs.laws.Bounds.{meet-lt, minus-lt}
 use Rattle.sets.specs.laws.Build.{setOf-lt, has-setOf, is-setOf}
 use Rattle.sets.specs.Set.{has, meet, minus, setOf, lowest}
 use Rattle.sets.specs.laws.Bools.{clash, and-or-not, ne-eqb}
-use Rattle.sets.specs.laws.Least.{lowestOf-same, lowestOf-is-all}
-use Rattle.sets.specs.laws.Lowest.{lowest-lowestOf, lowest-is-none}
+use Rattle.sets.specs.laws.Least.{lowestOf-le, lowestOf-same, lowestOf-is-all}
+use Rattle.sets.specs.laws.Lowest.{lowest-lowestOf}
 use Rattle.sets.specs.Any.{all}
 use Rattle.sets.specs.laws.Any.{all-yes, all-why, all-more, all-same}
 use Rattle.lists.specs.laws.Tab.{getD-tab}
 use Rattle.network.specs.declared.Peer.{Peer}
 use Rattle.network.specs.declared.Topic.{Topic}
 use Rattle.network.specs.declared.Network.{Network}
-use Rattle.network.specs.Network.{peer, topic, spot, neighboursOf, knownOf, linked, subscribed}
-use Rattle.network.specs.Rules.{nearRight, backRight, knownRight}
-use Rattle.network.specs.Tests.{subscribersOf, rowEmpty, nearAbsent, listBack, knownAt, rowKnown}
+use Rattle.network.specs.Network.{peer, topic, spot, neighboursOf, knownOf, present, linked, subscribed}
+use Rattle.network.specs.Rules.{nearAt, backAt, knownAt, knownRight, lowestWrong}
+use Rattle.network.specs.Tests.{subscribersOf, rowEmpty, nearAbsent, listBack, sameAt, rowKnown}
 
 -- a loop that asks all of them: r says whether all so far passed
 pub all-keep : (n : ℕ) (f : ℕ → Bool) {r : Bool} → r ≡ all n f → f n ≡ true → r ≡ all (n + 1) f
@@ -31,17 +31,23 @@ pub all-lost : (n : ℕ) (f : ℕ → Bool) → f n ≡ false → false ≡ all 
 all-lost n f h = sym (all-more n f ∙ ap (λ (b : Bool). all n f && b) h ∙ and-false (all n f))
 
 -- what is compared for topic t
-pub known-at : (known subscribers : List ℕ) (listed : ℕ) (p : Peer) (t : ℕ) {i w : ℕ} → i ≡ spot p (topic t) → w ≡ meet (getD subscribers t 0) listed → eqb (getD known i 0) w ≡ knownAt known subscribers listed p t
+pub known-at : (known subscribers : List ℕ) (listed : ℕ) (p : Peer) (t : ℕ) {i w : ℕ} → i ≡ spot p (topic t) → w ≡ meet (getD subscribers t 0) listed → eqb (getD known i 0) w ≡ sameAt known subscribers listed p t
 known-at known subscribers listed p t ei ew = rw (ei, ew)
 
--- ---- each is its rule, where the lowest is 32
+-- ---- each is its rule: the lowest at fault is the rule's, and 32 where the rule is kept
 
--- a rule whose lowest fault r was worked out: kept where r is 32, broken where it is not
-pub rule-kept : {l r : ℕ} {right : Bool} → eqb l 32 ≡ right → r ≡ l → r ≡ 32 → right ≡ true
-rule-kept h e z = sym h ∙ eq-eqb _ 32 (sym e ∙ z)
+pub rule-kept : (right : ℕ → Bool) {l r : ℕ} → l ≡ lowestWrong right → r ≡ l → r ≡ 32 → all 32 right ≡ true
+unfolding lowestWrong
+rule-kept right h e z = sym (lowestOf-is-all 32 right) ∙ eq-eqb _ 32 (sym h ∙ sym e ∙ z)
 
-pub rule-broken : {l r : ℕ} {right : Bool} → eqb l 32 ≡ right → r ≡ l → (r ≡ 32 → ⊥) → right ≡ false
-rule-broken h e z = sym h ∙ ne-eqb λ d. z (e ∙ d)
+pub rule-broken : (right : ℕ → Bool) {l r : ℕ} → l ≡ lowestWrong right → r ≡ l → (r ≡ 32 → ⊥) → all 32 right ≡ false
+unfolding lowestWrong
+rule-broken right h e z = sym (lowestOf-is-all 32 right) ∙ ne-eqb λ d. z (e ∙ h ∙ d)
+
+-- it is at most 32, so that it fits a byte
+pub wrong-le : (right : ℕ → Bool) {l r : ℕ} → l ≡ lowestWrong right → r ≡ l → r ≤ 32
+unfolding lowestWrong
+wrong-le right h e = rw (e ∙ h) (lowestOf-le 32 _)
 
 -- "all its bytes are zero", of the known subscribers
 pub row-empty-why : (known : List ℕ) (p : Peer) → rowEmpty known p ≡ true → (t : Topic) → t .0 < 32 → getD known (spot p t) 0 ≡ 0
@@ -57,16 +63,14 @@ pub near-lowest : (listed present : ℕ) → listed < 2 ^ 32 → lowest 32 (minu
 unfolding nearAbsent
 near-lowest listed present h = lowest-lowestOf 32 (minus listed present) (minus-lt 32 listed present h) ∙ lowestOf-same 32 _ _ λ q l. has-minus listed present q
 
-pub near-is : (n : Network) (p : Peer) → neighboursOf n p < 2 ^ 32 → eqb (nearAbsent (neighboursOf n p) (n .present)) 32 ≡ nearRight n p
-unfolding nearRight
-near-is n p h = ap (λ (x : ℕ). eqb x 32) (sym (near-lowest (neighboursOf n p) (n .present) h)) ∙ lowest-is-none 32 _ (minus-lt 32 (neighboursOf n p) (n .present) h)
+pub near-is : (n : Network) (p : Peer) → nearAbsent (neighboursOf n p) (n .present) ≡ lowestWrong (nearAt n p)
+unfolding nearAbsent lowestWrong
+near-is n p = lowestOf-same 32 _ _ λ q l. and-or-not (linked n p (peer q)) (present n (peer q))
 
 -- "and lists p"
-pub back-is : (n : Network) (p : Peer) → eqb (listBack (n .neighbours) (neighboursOf n p) p) 32 ≡ backRight n p
-unfolding listBack backRight
-back-is n p =
-    ap (λ (x : ℕ). eqb x 32) (lowestOf-same 32 _ (λ (q : ℕ). not (not (linked n p (peer q)) || linked n (peer q) p)) λ q l. and-or-not (linked n p (peer q)) (linked n (peer q) p))
-    ∙ lowestOf-is-all 32 (λ (q : ℕ). not (linked n p (peer q)) || linked n (peer q) p)
+pub back-is : (n : Network) (p : Peer) → listBack (n .neighbours) (neighboursOf n p) p ≡ lowestWrong (backAt n p)
+unfolding listBack lowestWrong
+back-is n p = lowestOf-same 32 _ _ λ q l. and-or-not (linked n p (peer q)) (linked n (peer q) p)
 
 -- "the neighbours subscribed to t" are those that both sets have
 both-is : (n : Network) (p : Peer) (t : ℕ) → t < 32
@@ -80,10 +84,10 @@ both-is n p t b =
     to : ℕ → Bool
     to q = has (getD (n .subs) q 0) t
 
-pub same-is : (n : Network) (p : Peer) {subscribers : List ℕ} → subscribers ≡ subscribersOf (n .subs) → all 32 (knownAt (n .known) subscribers (neighboursOf n p) p) ≡ knownRight n p
+pub same-is : (n : Network) (p : Peer) {subscribers : List ℕ} → subscribers ≡ subscribersOf (n .subs) → all 32 (sameAt (n .known) subscribers (neighboursOf n p) p) ≡ knownRight n p
 unfolding knownRight
 same-is n p e = rw e (all-same 32 _ _ λ t b. ap (eqb (knownOf n p (topic t))) (both-is n p t b))
 
-pub known-is : (n : Network) (p : Peer) {subscribers : List ℕ} → subscribers ≡ subscribersOf (n .subs) → eqb (rowKnown (n .known) subscribers (neighboursOf n p) p) 32 ≡ knownRight n p
-unfolding rowKnown
-known-is n p {subscribers} e = lowestOf-is-all 32 (knownAt (n .known) subscribers (neighboursOf n p) p) ∙ same-is n p e
+pub known-is : (n : Network) (p : Peer) {subscribers : List ℕ} → subscribers ≡ subscribersOf (n .subs) → rowKnown (n .known) subscribers (neighboursOf n p) p ≡ lowestWrong (knownAt n p)
+unfolding rowKnown lowestWrong
+known-is n p e = rw e (lowestOf-same 32 _ _ λ t b. ap (λ (w : ℕ). not (eqb (knownOf n p (topic t)) w)) (both-is n p t b))

@@ -4,11 +4,12 @@
 use mathlib.Core.Bool.{Bool, true, false, cond, not, _&&_, _||_}
 use Prim.Native.Nat.{ℕ}
 use lib.Dec.{eqb, ltb}
-use Rattle.sets.specs.Set.{meet, minus, setOf, digit}
+use Rattle.sets.specs.Set.{meet, setOf, digit}
 use Rattle.sets.specs.Any.{all}
 use Rattle.sets.specs.Least.{lowestOf}
 use Rattle.network.specs.declared.Peer.{Peer}
 use Rattle.network.specs.declared.Network.{Network}
+use Rattle.network.specs.declared.Checked.{Checked}
 use Rattle.network.specs.Network.{peer, topic, pubsOf, subsOf, neighboursOf, pendingOf, seenOf, knownOf, present, subscribed, linked}
 
 -- "byte 0 is 0 or 1 and bytes 1-3 are zero": the four bytes, little-endian, make 0 or 1
@@ -24,18 +25,26 @@ emptyRight n p =
 unfoldable pub ownRight : Network → Peer → Bool
 ownRight n p = not (linked n p p)
 
--- "each neighbour q is present": none is among the absent
+-- "each neighbour q is present"
+abbrev pub nearAt : Network → Peer → ℕ → Bool
+nearAt n p q = not (linked n p (peer q)) || present n (peer q)
+
 unfoldable pub nearRight : Network → Peer → Bool
-nearRight n p = eqb (minus (neighboursOf n p) (n .present)) 0
+nearRight n p = all 32 (nearAt n p)
 
 -- "and lists p"
+abbrev pub backAt : Network → Peer → ℕ → Bool
+backAt n p q = not (linked n p (peer q)) || linked n (peer q) p
+
 unfoldable pub backRight : Network → Peer → Bool
-backRight n p = all 32 (λ (q : ℕ). not (linked n p (peer q)) || linked n (peer q) p)
+backRight n p = all 32 (backAt n p)
 
 -- "for every topic t, the known subscribers are exactly the neighbours subscribed to t"
+abbrev pub knownAt : Network → Peer → ℕ → Bool
+knownAt n p t = eqb (knownOf n p (topic t)) (setOf 32 (λ (q : ℕ). linked n p (peer q) && subscribed n (peer q) (topic t)))
+
 unfoldable pub knownRight : Network → Peer → Bool
-knownRight n p =
-    all 32 (λ (t : ℕ). eqb (knownOf n p (topic t)) (setOf 32 (λ (q : ℕ). linked n p (peer q) && subscribed n (peer q) (topic t))))
+knownRight n p = all 32 (knownAt n p)
 
 -- "pending and seen share no message"
 unfoldable pub apartRight : Network → Peer → Bool
@@ -46,28 +55,46 @@ unfoldable pub need : Bool → ℕ → ℕ → ℕ
 need true k rest = rest
 need false k rest = k
 
--- The first rule that fails, and 0 where none does: 1 presence byte and zero bytes, 2 absent and not empty, 3 own neighbour,
--- 4 a neighbour absent, 5 a neighbour that doesn't list back, 6 known subscribers wrong, 7 pending also seen.
+-- The number of the first rule that fails, and 0 where none does (document 02, E1): "presence byte or zero bytes; absent record not
+-- empty; own neighbour; neighbour absent; neighbour doesn't list back; known subscribers wrong; pending also seen", 20 to 26.
 unfoldable pub absentFault : Network → Peer → ℕ
-absentFault n p = need (emptyRight n p) 2 0
+absentFault n p = need (emptyRight n p) 21 0
 
 unfoldable pub presentFault : Network → Peer → ℕ
-presentFault n p = need (ownRight n p) 3 (need (nearRight n p) 4 (need (backRight n p) 5 (need (knownRight n p) 6 (need (apartRight n p) 7 0))))
+presentFault n p = need (ownRight n p) 22 (need (nearRight n p) 23 (need (backRight n p) 24 (need (knownRight n p) 25 (need (apartRight n p) 26 0))))
 
 unfoldable pub faultOf : ℕ → Network → Peer → ℕ
-faultOf h n p = need (headRight h) 1 (cond (eqb h 0) (absentFault n p) (presentFault n p))
+faultOf h n p = need (headRight h) 20 (cond (eqb h 0) (absentFault n p) (presentFault n p))
+
+-- "23 to 25 also give the lowest peer or topic at fault (0 otherwise)": the detail that goes with a number
+unfoldable pub lowestWrong : (ℕ → Bool) → ℕ
+lowestWrong right = lowestOf 32 (λ (i : ℕ). not (right i))
+
+unfoldable pub detailOf : ℕ → Network → Peer → ℕ
+detailOf number n p =
+    cond (eqb number 23) (lowestWrong (nearAt n p)) (cond (eqb number 24) (lowestWrong (backAt n p)) (cond (eqb number 25) (lowestWrong (knownAt n p)) 0))
 
 -- "A peer is present when byte 0 is 1": the first word of p's record as it is written
 abbrev pub headOf : Network → Peer → ℕ
 headOf n p = digit (present n p)
 
--- Record p has a fault, `heads i` being the first word of record i; and the "lowest unsound record", 32 where there is none:
--- of any first words, and of the working state.
+-- Record p has a fault, `heads i` being the first word of record i; and the "lowest unsound record", 32 where there is none.
 unfoldable pub faulty : (ℕ → ℕ) → Network → ℕ → Bool
 faulty heads n p = not (eqb (faultOf (heads p) n (peer p)) 0)
 
 unfoldable pub lowestBy : (ℕ → ℕ) → Network → ℕ
 lowestBy heads n = lowestOf 32 (faulty heads n)
 
-abbrev pub lowestFault : Network → ℕ
-lowestFault n = lowestBy (λ (p : ℕ). headOf n (peer p)) n
+-- The verdict on a network: "the lowest unsound record comes first, then its lowest rule"; number 0 where no record has a fault. Of the
+-- working state the first words can't be wrong, so that 20 is never given.
+abbrev pub checked : ℕ → ℕ → ℕ → Checked
+checked number place detail = record { number = number; detail = detail; place = place }
+
+unfoldable pub faultAs : (ℕ → ℕ) → Network → ℕ → Checked
+faultAs heads n p = let k = faultOf (heads p) n (peer p) in checked k p (detailOf k n (peer p))
+
+unfoldable pub verdictBy : (ℕ → ℕ) → Network → Checked
+verdictBy heads n = cond (ltb (lowestBy heads n) 32) (faultAs heads n (lowestBy heads n)) (checked 0 0 0)
+
+abbrev pub verdictOf : Network → Checked
+verdictOf n = verdictBy (λ (p : ℕ). headOf n (peer p)) n

@@ -6,7 +6,7 @@ use mathlib.Core.Path.{_≡_}
 use mathlib.Core.Bool.{cond}
 use mathlib.Core.List.{List}
 use Prim.Native.Nat.{ℕ, zero, suc, _+_, _*_, _/_, _%_, _^_}
-use lib.Dec.{eqb, ltb}
+use lib.Dec.{eqb}
 use lib.ListN.{length, replicate}
 use Rattle.sets.specs.Set.{setOf}
 use Rattle.lists.specs.Tab.{tab}
@@ -17,7 +17,7 @@ use Rattle.network.specs.declared.Opened.{Opened}
 use Rattle.network.specs.declared.Looked.{Looked}
 use Rattle.network.specs.declared.Checked.{Checked}
 use Rattle.network.specs.Network.{peer, topic, mk, pubsOf, subsOf, neighboursOf, pendingOf, seenOf, knownOf}
-use Rattle.network.specs.Rules.{faultOf, headOf, lowestBy, lowestFault}
+use Rattle.network.specs.Rules.{faultOf, headOf, checked, verdictBy, verdictOf}
 
 -- ---- reading
 
@@ -50,31 +50,32 @@ netOf b =
     (tab 32 (λ (p : ℕ). longIn b p 6))
     (tab 1024 (knownIn b))
 
--- the fault of record p, and the "lowest unsound record"
+-- the fault of record p, and the verdict on all
 abbrev pub faultAt : List ℕ → Peer → ℕ
 faultAt b p = faultOf (wordIn b (p .0) 0) (netOf b) p
 
-abbrev pub unsoundAt : List ℕ → ℕ
-unsoundAt b = lowestBy (λ (p : ℕ). wordIn b p 0) (netOf b)
+abbrev pub verdictAt : List ℕ → Checked
+verdictAt b = verdictBy (λ (p : ℕ). wordIn b p 0) (netOf b)
 
 -- "A blank network is 5,120 zero bytes."
 unfoldable pub blankNet : Network
 blankNet = mk 0 (replicate 32 0) (replicate 32 0) (replicate 32 0) (replicate 32 0) (replicate 32 0) (replicate 1024 0)
 
-abbrev pub opened : ℕ → ℕ → Network → Opened
-opened number place n = record { number = number; place = place; network = n }
+abbrev pub opened : ℕ → ℕ → ℕ → Network → Opened
+opened number place detail n = record { number = number; place = place; detail = detail; network = n }
 
--- "Reading and writing refuse by 1, then 5, and by nothing else; a refused read answers the blank state"
+-- an answer with the network that goes with it: "a refused read answers the blank state"
+unfoldable pub openedBy : Checked → Network → Opened
+openedBy c n = opened (c .number) (c .place) (c .detail) (cond (eqb (c .number) 0) n blankNet)
+
+-- "Reading and writing refuse by 1, then" 20 to 26, "and by nothing else"
 unfoldable pub openOf : List ℕ → Opened
-openOf b =
-    cond (eqb (length b) 5120)
-    (cond (ltb (unsoundAt b) 32) (opened 5 (unsoundAt b) blankNet) (opened 0 0 (netOf b)))
-    (opened 1 0 blankNet)
+openOf b = cond (eqb (length b) 5120) (openedBy (verdictAt b) (netOf b)) (opened 1 0 0 blankNet)
 
 -- Reading into lent arrays: its answer, with the network n that the arrays are then in the place of the one read; and that network,
 -- from the one that the arrays were: what the words say, refused or not, where there are 5,120 bytes.
-unfoldable pub openedAs : Looked → Network → Opened
-openedAs r n = opened (r .number) (r .place) (cond (eqb (r .number) 0) n blankNet)
+abbrev pub openedAs : Looked → Network → Opened
+openedAs r n = openedBy (checked (r .number) (r .place) (r .detail)) n
 
 unfoldable pub overOf : List ℕ → Network → Network
 overOf b old = cond (eqb (length b) 5120) (netOf b) old
@@ -108,12 +109,9 @@ byteOf n i = wordOf n (i / 4) / 256 ^ (i % 4) % 256
 unfoldable pub bytesOf : Network → List ℕ
 bytesOf n = tab 5120 (byteOf n)
 
-abbrev pub checked : ℕ → ℕ → Checked
-checked number place = record { number = number; place = place }
-
 -- the answer, and the buffer afterwards: "a refused write leaves its buffer untouched"
 unfoldable pub writeOf : Network → List ℕ → Checked
-writeOf n b = cond (eqb (length b) 5120) (cond (ltb (lowestFault n) 32) (checked 5 (lowestFault n)) (checked 0 0)) (checked 1 0)
+writeOf n b = cond (eqb (length b) 5120) (verdictOf n) (checked 1 0 0)
 
 unfoldable pub writtenOf : Network → List ℕ → List ℕ
-writtenOf n b = cond (eqb (length b) 5120) (cond (ltb (lowestFault n) 32) b (bytesOf n)) b
+writtenOf n b = cond (eqb (writeOf n b .number) 0) (bytesOf n) b

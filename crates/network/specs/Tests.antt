@@ -33,8 +33,8 @@ unfoldable pub listBack : List ℕ → ℕ → Peer → ℕ
 listBack neighbours listed p = lowestOf 32 (λ (q : ℕ). has listed q && not (has (getD neighbours q 0) (p .0)))
 
 -- for topic t the row of p has the subscribers among the peers listed; and the lowest topic for which it has others
-abbrev pub knownAt : List ℕ → List ℕ → ℕ → Peer → ℕ → Bool
-knownAt known subscribers listed p t = eqb (getD known (spot p (topic t)) 0) (meet (getD subscribers t 0) listed)
+abbrev pub sameAt : List ℕ → List ℕ → ℕ → Peer → ℕ → Bool
+sameAt known subscribers listed p t = eqb (getD known (spot p (topic t)) 0) (meet (getD subscribers t 0) listed)
 
 unfoldable pub rowKnown : List ℕ → List ℕ → ℕ → Peer → ℕ
-rowKnown known subscribers listed p = lowestOf 32 (λ (t : ℕ). not (knownAt known subscribers listed p t))
+rowKnown known subscribers listed p = lowestOf 32 (λ (t : ℕ). not (sameAt known subscribers listed p t))

@@ -40,25 +40,29 @@ pub struct Table {
     pub origins: [u8; 64],
 }
 
-// What reading a state answers: the number of document 01 ("Numbers returned"), the record at fault, and the network; the blank
-// one where the number is not 0.
+// What reading a state answers: the number of document 01 ("Numbers returned") or 02 (E1), the record at fault, the detail, and the network;
+// the blank one where the number is not 0.
 pub struct Opened {
     pub number: u8,
     pub place: usize,
+    pub detail: u8,
     pub network: Network,
 }
 
-// What reading a state into lent arrays answers: the number, the record at fault, and who is present.
+// What reading a state into lent arrays answers: the number, the record at fault, the detail, and who is present.
 pub struct Looked {
     pub number: u8,
     pub place: usize,
+    pub detail: u8,
     pub present: u32,
 }
 
-// What an entry point answers that only reads or writes: 0, or the number of a refusal and its place, here the record at fault.
+// What an entry point answers that only reads or writes: zeros, or the number of a refusal, its detail (the lowest peer or topic at fault where
+// the number is 23 to 25, else 0) and its place, here the record at fault. The detail lies where C has padding.
 #[repr(C)]
 pub struct Checked {
     pub number: u8,
+    pub detail: u8,
     pub place: usize,
 }
 
@@ -85,26 +89,27 @@ pub fn blank() -> Network
 }
 
 // A reading that is refused answers the blank network.
-fn refused(number: u8, place: usize) -> Opened
-    ensures { λ r. ⌜ r ≡ opened number place blankNet ⌝ }
+fn refused(number: u8, place: usize, detail: u8) -> Opened
+    ensures { λ r. ⌜ r ≡ opened number place detail blankNet ⌝ }
 {
     Opened {
         number,
         place,
+        detail,
         network: blank(),
     }
 }
 
-// The network that the bytes say. Refused by 1, then by 5 with the lowest unsound record, with the blank network.
+// The network that the bytes say. Refused by 1, then by 20 to 26 with the lowest unsound record and the detail, with the blank network.
 pub fn read(state: &[u8]) -> Opened
     ensures { λ r. ⌜ r ≡ openOf (now (state .entry)) ⌝ }
 {
     if state.len() != 5120 {
-        return refused(1, 0);
+        return refused(1, 0, 0);
     }
     let heads = load::words(state, 0);
     let network = load::network(state);
-    let p = rules::lowest_fault(
+    let verdict = rules::verdict(
         &heads,
         network.present,
         &network.pubs,
@@ -114,12 +119,13 @@ pub fn read(state: &[u8]) -> Opened
         &network.seen,
         &network.known,
     );
-    if p < 32 {
-        return refused(5, p);
+    if verdict.number != 0 {
+        return refused(verdict.number, verdict.place, verdict.detail);
     }
     Opened {
         number: 0,
         place: 0,
+        detail: 0,
         network,
     }
 }
@@ -146,6 +152,7 @@ pub fn open(
         return Looked {
             number: 1,
             place: 0,
+            detail: 0,
             present: 0,
         };
     }
@@ -157,7 +164,7 @@ pub fn open(
     *pending = load::longs(state, 4);
     *seen = load::longs(state, 6);
     load::fill_known(state, &mut *known);
-    let p = rules::lowest_fault(
+    let verdict = rules::verdict(
         &heads,
         present,
         &*pubs,
@@ -167,16 +174,10 @@ pub fn open(
         &*seen,
         &*known,
     );
-    if p < 32 {
-        return Looked {
-            number: 5,
-            place: p,
-            present,
-        };
-    }
     Looked {
-        number: 0,
-        place: 0,
+        number: verdict.number,
+        place: verdict.place,
+        detail: verdict.detail,
         present,
     }
 }
@@ -234,18 +235,20 @@ pub fn put(n: Network, state: &mut [u8])
     );
 }
 
-// Writes the network's bytes, if it is sound. Refused by 1, then by 5 with the lowest unsound record; the buffer stays as it was.
+// Writes the network's bytes, if it is sound. Refused by 1, then by 21 to 26 with the lowest unsound record and the detail; the buffer stays
+// as it was.
 pub fn write(n: Network, state: &mut [u8]) -> Checked
     ensures { λ r. ⌜ (r ≡ writeOf n (now (state .entry))) × (now (state .exit) ≡ writtenOf n (now (state .entry))) ⌝ }
 {
     if state.len() != 5120 {
         return Checked {
             number: 1,
+            detail: 0,
             place: 0,
         };
     }
     let heads = store::heads(n.present);
-    let p = rules::lowest_fault(
+    let verdict = rules::verdict(
         &heads,
         n.present,
         &n.pubs,
@@ -255,17 +258,10 @@ pub fn write(n: Network, state: &mut [u8]) -> Checked
         &n.seen,
         &n.known,
     );
-    if p < 32 {
-        return Checked {
-            number: 5,
-            place: p,
-        };
+    if verdict.number == 0 {
+        put(n, state);
     }
-    put(n, state);
-    Checked {
-        number: 0,
-        place: 0,
-    }
+    verdict
 }
 
 // A reading that is refused answers a table of zeros.

@@ -1,18 +1,19 @@
-// The rules of soundness as code: which rule a record breaks first, and which record is the lowest that breaks one
+// The rules of soundness as code: which rule a record breaks first, which record is the lowest that breaks one, and the detail
 // (specs/Rules.antt; specs/Tests.antt has what is tested in place of a rule).
+use crate::Checked;
 use crate::Peer;
 use crate::Topic;
 use crate::spot;
 ghost use mathlib.Core.Path.{_≡_};
-ghost use Prim.Native.Nat.{ℕ, _%_, _^_, _<_};
+ghost use Prim.Native.Nat.{ℕ, _%_, _<_};
 ghost use lib.Dec.{eqb};
 ghost use lib.ListN.{getD};
 ghost use Rattle.sets.specs.Set.{setOf};
 ghost use Rattle.sets.specs.Any.{all};
 ghost use Rattle.network.specs.declared.Network.{Network};
 ghost use Rattle.network.specs.Network.{withPresent, withPubs, withSubs, withNeighbours, withPending, withSeen, withKnown, withAll};
-ghost use Rattle.network.specs.Rules.{absentFault, presentFault, faultOf, lowestBy};
-ghost use Rattle.network.specs.Tests.{subscribersOf, joinedTo, rowEmpty, nearAbsent, listBack, knownAt, rowKnown};
+ghost use Rattle.network.specs.Rules.{absentFault, presentFault, faultOf, detailOf, verdictBy};
+ghost use Rattle.network.specs.Tests.{subscribersOf, joinedTo, rowEmpty, nearAbsent, listBack, sameAt, rowKnown};
 
 // "A peer is present when byte 0 is 1": the peers whose first word has 1 as its lowest byte.
 pub(crate) fn ones(heads: &[u32; 32]) -> u32
@@ -72,9 +73,9 @@ fn row_empty(known: &[u32; 1024], p: Peer) -> bool
     same
 }
 
-// The lowest of the peers listed that is absent; 32 where all are present. It also hands on that the word fits, by which 32 means none.
+// The lowest of the peers listed that is absent; 32 where all are present.
 fn near_absent(listed: u32, present: u32) -> u32
-    ensures { λ r. ⌜ (r ≡ nearAbsent listed present) × (listed < 2 ^ 32) ⌝ }
+    ensures { λ r. ⌜ r ≡ nearAbsent listed present ⌝ }
 {
     let absent = sets::minus32(listed, present);
     if absent == 0 {
@@ -102,7 +103,7 @@ fn list_back(neighbours: &[u32; 32], listed: u32, p: Peer) -> u32
 // The row of p has, for each topic, the subscribers among the peers listed. Every topic is asked, so that the compiler can ask many at once.
 fn row_same(known: &[u32; 1024], subscribers: &[u32; 32], listed: u32, p: Peer) -> bool
     requires { ⌜ p .0 < 32 ⌝ }
-    ensures { λ r. ⌜ r ≡ all 32 (knownAt (now (known .entry)) (now (subscribers .entry)) listed p) ⌝ }
+    ensures { λ r. ⌜ r ≡ all 32 (sameAt (now (known .entry)) (now (subscribers .entry)) listed p) ⌝ }
 {
     let base = p.0 as usize * 32;
     let mut same = true;
@@ -117,8 +118,8 @@ fn row_same(known: &[u32; 1024], subscribers: &[u32; 32], listed: u32, p: Peer) 
 }
 
 // The lowest topic for which the row of p has other subscribers than those among the peers listed; 32 where there is none. It is for
-// reports: a test of the rule asks `row_same`, since the search, inlined, spoils the comparison by vectors.
-pub(crate) fn row_known(known: &[u32; 1024], subscribers: &[u32; 32], listed: u32, p: Peer) -> u32
+// the detail alone: a test of the rule asks `row_same`, since the search, inlined, spoils the comparison by vectors.
+fn row_known(known: &[u32; 1024], subscribers: &[u32; 32], listed: u32, p: Peer) -> u32
     requires { ⌜ p .0 < 32 ⌝ }
     ensures { λ r. ⌜ r ≡ rowKnown (now (known .entry)) (now (subscribers .entry)) listed p ⌝ }
 {
@@ -135,7 +136,7 @@ pub(crate) fn row_known(known: &[u32; 1024], subscribers: &[u32; 32], listed: u3
     32
 }
 
-// The fault of an absent record: 2 where it is not empty. This and what follows speak of every network that has the lent arrays.
+// The fault of an absent record: 21 where it is not empty. This and what follows speak of every network that has the lent arrays.
 fn absent_fault(
     p: Peer,
     pubs: &[u32; 32],
@@ -152,24 +153,24 @@ fn absent_fault(
 {
     let i = p.0 as usize;
     if pubs[i] != 0 {
-        return 2;
+        return 21;
     }
     if subs[i] != 0 {
-        return 2;
+        return 21;
     }
     if neighbours[i] != 0 {
-        return 2;
+        return 21;
     }
     if pending[i] != 0 {
-        return 2;
+        return 21;
     }
     if seen[i] != 0 {
-        return 2;
+        return 21;
     }
     if row_empty(known, p) {
         return 0;
     }
-    2
+    21
 }
 
 // The fault of a present record, `subscribers` being the peers subscribed to each topic.
@@ -191,19 +192,19 @@ fn present_fault(
     let i = p.0 as usize;
     let listed = neighbours[i];
     if sets::has32(listed, p.0 as u32) {
-        return 3;
+        return 22;
     }
     if near_absent(listed, present) != 32 {
-        return 4;
+        return 23;
     }
     if list_back(neighbours, listed, p) != 32 {
-        return 5;
+        return 24;
     }
     if !row_same(known, subscribers, listed, p) {
-        return 6;
+        return 25;
     }
     if sets::meet64(pending[i], seen[i]) != 0 {
-        return 7;
+        return 26;
     }
     0
 }
@@ -227,7 +228,7 @@ fn fault(
         (now (known .entry))) p) ⌝ }
 {
     if 2 <= head {
-        return 1;
+        return 20;
     }
     if head == 0 {
         return absent_fault(p, pubs, subs, neighbours, pending, seen, known);
@@ -244,8 +245,36 @@ fn fault(
     )
 }
 
-// The lowest record that breaks a rule; 32 where none does.
-pub(crate) fn lowest_fault<'a>(
+// The detail that goes with the number of p's fault: the lowest peer or topic at fault for 23 to 25, 0 for the others. It is asked only
+// once a record is known to be at fault.
+fn detail(
+    number: u8,
+    p: Peer,
+    present: u32,
+    subs: &[u32; 32],
+    neighbours: &[u32; 32],
+    known: &[u32; 1024],
+    subscribers: &[u32; 32],
+) -> u8
+    requires { ⌜ (p .0 < 32) × (now subscribers ≡ subscribersOf (now subs)) ⌝ }
+    ensures { λ r. ⌜ ((n : Network) → r ≡ detailOf number (withPresent
+        (withSubs (withNeighbours (withKnown n (now (known .entry))) (now (neighbours .entry))) (now (subs .entry))) present) p) ⌝ }
+{
+    let listed = neighbours[p.0 as usize];
+    if number == 23 {
+        return near_absent(listed, present) as u8;
+    }
+    if number == 24 {
+        return list_back(neighbours, listed, p) as u8;
+    }
+    if number == 25 {
+        return row_known(known, subscribers, listed, p) as u8;
+    }
+    0
+}
+
+// The verdict: the lowest record that breaks a rule, the number of the first rule that it breaks, and the detail; zeros where none does.
+pub(crate) fn verdict<'a>(
     heads: &'a [u32; 32],
     present: u32,
     pubs: &'a [u32; 32],
@@ -254,8 +283,8 @@ pub(crate) fn lowest_fault<'a>(
     pending: &'a [u64; 32],
     seen: &'a [u64; 32],
     known: &'a [u32; 1024],
-) -> usize
-    ensures { λ r. ⌜ ((n : Network) → r ≡ lowestBy (λ (p : ℕ). getD (now (heads .entry)) p 0)
+) -> Checked
+    ensures { λ r. ⌜ ((n : Network) → r ≡ verdictBy (λ (p : ℕ). getD (now (heads .entry)) p 0)
         (withAll n present (now (pubs .entry)) (now (subs .entry)) (now (neighbours .entry)) (now (pending .entry)) (now (seen .entry))
         (now (known .entry)))) ⌝ }
 {
@@ -263,7 +292,7 @@ pub(crate) fn lowest_fault<'a>(
     let mut p: u8 = 0;
     while p < 32 {
         let i = p as usize;
-        let f = fault(
+        let number = fault(
             heads[i],
             Peer(p),
             present,
@@ -275,10 +304,26 @@ pub(crate) fn lowest_fault<'a>(
             known,
             &subscribers,
         );
-        if f != 0 {
-            return i;
+        if number != 0 {
+            return Checked {
+                number,
+                detail: detail(
+                    number,
+                    Peer(p),
+                    present,
+                    subs,
+                    neighbours,
+                    known,
+                    &subscribers,
+                ),
+                place: i,
+            };
         }
         p += 1;
     }
-    32
+    Checked {
+        number: 0,
+        detail: 0,
+        place: 0,
+    }
 }

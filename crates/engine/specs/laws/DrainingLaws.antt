@@ -29,7 +29,7 @@ module _ (s t : List ℕ) where
   pub begun-sound : Bytes s → Sound (beginOf s t 0 .network)
   begun-sound h = begin-sound s t 0 h
 
-  -- "Refusals 1, 2, 4, 5": without events nothing is refused by 3
+  -- "Refusals 1, 2, 4", 20 to 26: without events nothing is refused by 3
   pub begun-never-3 : beginOf s t 0 .number ≡ 3 → ⊥
   begun-never-3 = begin-3-never s t 0
 
@@ -48,7 +48,7 @@ abbrev pub Ended : (s t : List ℕ) → ℕ → Drained → List ℕ → Type 0
 Ended s t budget r now-s = (r ≡ drainEndOf s t budget .answer) × (now-s ≡ drainEndOf s t budget .state)
 
 -- it is refused
-pub drain-refused : {g : Begun} {r : Drained} (s t : List ℕ) (budget : ℕ) → g ≡ beginOf s t 0 → (g .number ≡ 0 → ⊥) → r ≡ refusedDrain (g .number) (g .place) → Ended s t budget r s
+pub drain-refused : {g : Begun} {r : Drained} (s t : List ℕ) (budget : ℕ) → g ≡ beginOf s t 0 → (g .number ≡ 0 → ⊥) → r ≡ refusedDrain (g .number) (g .place) (g .detail) → Ended s t budget r s
 unfolding drainEndOf
 drain-refused {g} s t budget e h k = (rw (← e, ne-eqb h) k, rw (← e, ne-eqb h))
 
@@ -56,7 +56,7 @@ drain-refused {g} s t budget e h k = (rw (← e, ne-eqb h) k, rw (← e, ne-eqb 
 pub drain-done : {g : Begun} {e f : List ℕ} {r : Drains} (s t now-s : List ℕ) (budget : ℕ) → Bytes s → g ≡ beginOf s t 0 → g .number ≡ 0
     → DrainsTo (g .network .known) (g .table .topics) (g .network .pending) (g .network .seen) budget e f r
     → now-s ≡ bytesOf (withMessages (g .network) e f (g .network .known))
-    → {x : Drained} → x ≡ drained 0 0 (r .forwards) (r .rounds) (r .quiet) → Ended s t budget x now-s
+    → {x : Drained} → x ≡ drained (r .forwards) (r .rounds) (r .quiet) → Ended s t budget x now-s
 unfolding drainEndOf
 drain-done {g} s t now-s budget h k z d w y =
     let a = drains-sound budget d (g .network) (g .table .origins) (rw k (begun-sound s t h)) (rw k (begun-rows s t)) in

@@ -59,11 +59,11 @@ forward-fits p m l j = (omega arith, omega arith)
 
 module _ (s : List ℕ) (n : Network) (b : Table) (p m : ℕ) where
   -- refused by 7: no such peer; no such message
-  pub forward-peer : {r : Forwarded} → r ≡ forwardedBy 7 0 0 → 31 < p → Gives r s (forwardOn s n b p m)
+  pub forward-peer : {r : Forwarded} → r ≡ forwardedBy 7 0 0 0 → 31 < p → Gives r s (forwardOn s n b p m)
   unfolding forwardOn
   forward-peer k h = let w : ltb p 32 ≡ false = le-ltb p 32 (omega arith) in (k ∙ rw w, rw w)
 
-  pub forward-message : {r : Forwarded} → r ≡ forwardedBy 7 0 0 → p ≤ 31 → 63 < m → Gives r s (forwardOn s n b p m)
+  pub forward-message : {r : Forwarded} → r ≡ forwardedBy 7 0 0 0 → p ≤ 31 → 63 < m → Gives r s (forwardOn s n b p m)
   unfolding forwardOn
   forward-message k l h =
       let v : ltb p 32 ≡ true = lt-ltb p 32 (omega arith) in
@@ -71,7 +71,7 @@ module _ (s : List ℕ) (n : Network) (b : Table) (p m : ℕ) where
       (k ∙ rw (v, w), rw (v, w))
 
   -- refused by 8 or 13
-  pub forward-refused : {r : Forwarded} {x : Turned} → r ≡ forwardedBy (x .number) 0 0 → p ≤ 31 → m ≤ 63
+  pub forward-refused : {r : Forwarded} {x : Turned} → r ≡ forwardedBy (x .number) 0 0 0 → p ≤ 31 → m ≤ 63
       → x ≡ turnedOf n b (forwardEvent p m) → (x .number ≡ 0 → ⊥) → Gives r s (forwardOn s n b p m)
   unfolding forwardOn
   forward-refused {r} {x} k l j q h =
@@ -81,7 +81,7 @@ module _ (s : List ℕ) (n : Network) (b : Table) (p m : ℕ) where
       (k ∙ rw (v, w, ← y, ne-eqb h), rw (v, w, ← y, ne-eqb h))
 
   -- accepted
-  pub forward-done : {r : Forwarded} {x : Turned} {n′ : Network} {to : List ℕ} → r ≡ forwardedBy 0 0 (x .deliveries) → p ≤ 31 → m ≤ 63
+  pub forward-done : {r : Forwarded} {x : Turned} {n′ : Network} {to : List ℕ} → r ≡ forwardedBy 0 0 0 (x .deliveries) → p ≤ 31 → m ≤ 63
       → x ≡ turnedOf n b (forwardEvent p m) → n′ ≡ after n b (forwardEvent p m) → x .number ≡ 0 → to ≡ bytesOf n′ → Gives r to (forwardOn s n b p m)
   unfolding forwardOn
   forward-done {r} {x} {n′} {to} k l j q a h c =
@@ -92,8 +92,8 @@ module _ (s : List ℕ) (n : Network) (b : Table) (p m : ℕ) where
       (k ∙ rw (v, w, y, d), rw (v, w, y) (c ∙ ap bytesOf (a ∙ forward-after n b p m y)))
 
 module _ (s t : List ℕ) (p m : ℕ) {g : Begun} (e : g ≡ beginOf s t 0) where
-  -- refused by 1, 2, 4 or 5
-  pub forward-begun : {r : Forwarded} → r ≡ forwardedBy (g .number) (g .place) 0 → (g .number ≡ 0 → ⊥) → Gives r s (forwardOf s t p m)
+  -- refused by 1, 2, 4 or 20 to 26
+  pub forward-begun : {r : Forwarded} → r ≡ forwardedBy (g .number) (g .place) (g .detail) 0 → (g .number ≡ 0 → ⊥) → Gives r s (forwardOf s t p m)
   unfolding forwardOf
   forward-begun k h = (k ∙ rw (← e, ne-eqb h), rw (← e, ne-eqb h))
 

@@ -1,12 +1,12 @@
 -- `network::open` meets its contract. Assumes nothing.
 use borrow.Author.Needs.{needs}
 use Rattle.network.specs.laws.Network.{bare}
-use Rattle.network.specs.laws.Opening.{net-is, unsound-is, opens-1, opens-5, opens-0}
+use Rattle.network.specs.laws.Opening.{net-is, verdict-at, opens-1, opens-verdict}
 use Rattle.network.proofs.open.Statement.{statement}
 use Rattle.network.proofs.open.Tie as tie
 
 -- from where the rules were asked: where all was read; from where the seen were read: the neighbours; and from there, who is present
-abbrev filled : tie.After-lowest-fault → tie.After-fill-known
+abbrev filled : tie.After-verdict → tie.After-fill-known
 filled c = c .before .before .before .before .before .before .before .before
 
 abbrev linked : tie.After-longs2 → tie.After-words4
@@ -42,28 +42,18 @@ longs-requires-2 c κs = search needs
 fill-known-requires : tie.Need-fill-known-requires
 fill-known-requires c κs = search needs
 
-lowest-fault-requires : tie.Need-lowest-fault-requires
-lowest-fault-requires c κs = search needs
+verdict-requires : tie.Need-verdict-requires
+verdict-requires c κs = search needs
 
 returns-2 : tie.Need-returns-2
 returns-2 c =
-    let k = filled (c .before) in
+    let k = filled c in
     let s = k .before .before in
     let m = linked s in
     let o = counted m in
     let w = o .before .before in
     let n = net-is _ (w .words .ensures) (o .ones .ensures) (m .before .before .words2 .ensures) (m .before .words3 .ensures) (m .words4 .ensures) (s .before .longs .ensures) (s .longs2 .ensures) (k .fill-known .ensures) in
-    opens-5 _ _ _ (w .before .if1 .left) (unsound-is _ (w .words .ensures) n (c .before .lowest-fault .ensures bare)) (c .if2 .taken) n
-
-returns-3 : tie.Need-returns-3
-returns-3 c =
-    let k = filled (c .before) in
-    let s = k .before .before in
-    let m = linked s in
-    let o = counted m in
-    let w = o .before .before in
-    let n = net-is _ (w .words .ensures) (o .ones .ensures) (m .before .before .words2 .ensures) (m .before .words3 .ensures) (m .words4 .ensures) (s .before .longs .ensures) (s .longs2 .ensures) (k .fill-known .ensures) in
-    opens-0 _ _ _ (w .before .if1 .left) (unsound-is _ (w .words .ensures) n (c .before .lowest-fault .ensures bare)) (c .if2 .left) n
+    opens-verdict _ _ (w .before .if1 .left) (verdict-at _ (w .words .ensures) n (c .verdict .ensures bare)) n
 
 pub open-spec : {M : Type 1} → statement M
 open-spec =
@@ -78,6 +68,5 @@ open-spec =
     longs-requires
     longs-requires-2
     fill-known-requires
-    lowest-fault-requires
-    returns-2
-    returns-3)
+    verdict-requires
+    returns-2)

@@ -9,7 +9,7 @@ blank-requires : tie.Need-blank-requires
 blank-requires c κs = search needs
 
 returns : tie.Need-returns
-returns c = ap (opened _ _) (c .blank .ensures)
+returns c = ap (opened _ _ _) (c .blank .ensures)
 
 pub refused-spec : {M : Type 1} → statement M
 refused-spec = tie.close (tie.spec blank-requires returns)

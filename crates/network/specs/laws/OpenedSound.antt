@@ -6,7 +6,7 @@ use Prim.Native.Nat.{ℕ, zero, suc, _*_, _+_, _%_, _^_, _≤_, _<_}
 use native.Mathlib.Omega.{arith}
 use lib.Dec.{eqb, ltb}
 use lib.ListN.{length, getD, replicate, length-replicate}
-use borrow.Author.Tests.{ltb-true, ltb-false, eqb-true}
+use borrow.Author.Tests.{ltb-true, eqb-true}
 use Rattle.sets.specs.Set.{has, digit}
 use Rattle.sets.specs.laws.Bools.{clash}
 use Rattle.sets.specs.laws.Members.{has-none}
@@ -18,9 +18,9 @@ use Rattle.network.specs.declared.Network.{Network}
 use Rattle.network.specs.Network.{peer, subscribed, Shaped}
 use Rattle.network.specs.Sound.{Sound}
 use Rattle.network.specs.Rules.{faultOf, headOf}
-use Rattle.network.specs.State.{word, wordIn, long, netOf, unsoundAt, blankNet, opened, openOf}
+use Rattle.network.specs.State.{word, wordIn, long, netOf, faultAt, verdictAt, blankNet, opened, openedBy, openOf}
 use Rattle.network.specs.laws.SoundIff.{faults-sound}
-use Rattle.network.specs.laws.Faults.{need-met, none-faulty}
+use Rattle.network.specs.laws.Faults.{need-met, verdict-by, verdict-is}
 use Rattle.network.specs.laws.Zeros.{getD-zeros}
 
 -- ---- the network of any bytes has the shape
@@ -56,7 +56,7 @@ net-shaped b h = record {
 -- a record without a fault has a right first word
 pub fault-head-right : (h : ℕ) (n : Network) (p : Peer) → faultOf h n p ≡ 0 → h < 2
 unfolding faultOf
-fault-head-right h n p e = ltb-true h 2 (need-met (ltb h 2) 0 _ e .0)
+fault-head-right h n p e = ltb-true h 2 (need-met (ltb h 2) 19 _ e .0)
 
 -- "A peer is present when byte 0 is 1": the first word of a record is read and written alike
 pub head-is : (b : List ℕ) (p : ℕ) → p < 32 → wordIn b p 0 < 2 → headOf (netOf b) (peer p) ≡ wordIn b p 0
@@ -68,10 +68,9 @@ head-is b p l h = ap digit (has-setOf 32 (λ (q : ℕ). eqb (wordIn b q 0 % 256)
     go (suc zero) c = refl
     go (suc (suc w)) c = absurd (omega arith)
 
-pub net-sound : (b : List ℕ) → Bytes b → 32 ≤ unsoundAt b → Sound (netOf b)
-net-sound b h u = faults-sound (net-shaped b h) λ p l.
-    let e = none-faulty _ _ u (p .0) l in
-    ap (λ (w : ℕ). faultOf w (netOf b) p) (head-is b (p .0) l (fault-head-right _ _ _ e)) ∙ e
+pub net-sound : (b : List ℕ) → Bytes b → ((p : ℕ) → p < 32 → faultAt b (peer p) ≡ 0) → Sound (netOf b)
+net-sound b h f = faults-sound (net-shaped b h) λ p l.
+    ap (λ (w : ℕ). faultOf w (netOf b) p) (head-is b (p .0) l (fault-head-right _ _ _ (f (p .0) l))) ∙ f (p .0) l
 
 -- ---- the blank network
 
@@ -121,25 +120,37 @@ blank-sound =
 -- an accepted state
 pub record Accepted (b : List ℕ) : Type 0 where
   pub long : length b ≡ 5120
-  pub sound : 32 ≤ unsoundAt b
-  pub is : openOf b ≡ opened 0 0 (netOf b)
+  pub sound : (p : ℕ) → p < 32 → faultAt b (peer p) ≡ 0
+  pub is : openOf b ≡ opened 0 0 0 (netOf b)
 
 pub accepted : (b : List ℕ) → openOf b .number ≡ 0 → Accepted b
-unfolding openOf
-accepted b h = go (eqb (length b) 5120) (ltb (unsoundAt b) 32) refl refl h
+unfolding openOf openedBy
+accepted b h = go (eqb (length b) 5120) refl h
   where
-    go : (x y : Bool) → eqb (length b) 5120 ≡ x → ltb (unsoundAt b) 32 ≡ y
-        → (cond x (cond y (opened 5 (unsoundAt b) blankNet) (opened 0 0 (netOf b))) (opened 1 0 blankNet)) .number ≡ 0 → Accepted b
-    go true true ex ey k = absurd (omega arith)
-    go true false ex ey k = record { long = eqb-true _ _ ex; sound = ltb-false _ _ ey; is = rw (ex, ey) }
-    go false y ex ey k = absurd (omega arith)
+    go : (x : Bool) → eqb (length b) 5120 ≡ x → (cond x (openedBy (verdictAt b) (netOf b)) (opened 1 0 0 blankNet)) .number ≡ 0 → Accepted b
+    go true e z =
+        let v = verdict-is _ _ .none z in
+        record { long = eqb-true _ _ e; sound = v .1; is = rw (e, v .0) }
+    go false e z = absurd (omega arith)
+
+-- "Reading and writing refuse by 1, then" 20 to 26, "and by nothing else"
+pub opened-by : (b : List ℕ) (P : ℕ → Type 0) → P 0 → P 1 → ((k : ℕ) → 20 ≤ k → k ≤ 26 → P k) → P (openOf b .number)
+unfolding openOf openedBy
+opened-by b P h0 h1 h = go (eqb (length b) 5120)
+  where
+    go : (x : Bool) → P ((cond x (openedBy (verdictAt b) (netOf b)) (opened 1 0 0 blankNet)) .number)
+    go true = verdict-by _ _ P h0 h
+    go false = h1
 
 -- "Reading [..] a sound state", and "a refused read answers the blank state": the network of every answer is sound
 pub opened-sound : (b : List ℕ) → Bytes b → Sound (openOf b .network)
-unfolding openOf
-opened-sound b h = go (eqb (length b) 5120) (ltb (unsoundAt b) 32) refl
+unfolding openOf openedBy
+opened-sound b h = go (eqb (length b) 5120)
   where
-    go : (x y : Bool) → ltb (unsoundAt b) 32 ≡ y → Sound ((cond x (cond y (opened 5 (unsoundAt b) blankNet) (opened 0 0 (netOf b))) (opened 1 0 blankNet)) .network)
-    go true true e = blank-sound
-    go true false e = net-sound b h (ltb-false _ _ e)
-    go false y e = blank-sound
+    which : (x : Bool) → eqb (verdictAt b .number) 0 ≡ x → Sound (cond x (netOf b) blankNet)
+    which true e = net-sound b h (verdict-is _ _ .none (eqb-true _ _ e) .1)
+    which false e = blank-sound
+
+    go : (x : Bool) → Sound ((cond x (openedBy (verdictAt b) (netOf b)) (opened 1 0 0 blankNet)) .network)
+    go true = which (eqb (verdictAt b .number) 0) refl
+    go false = blank-sound

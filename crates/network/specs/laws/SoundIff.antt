@@ -8,12 +8,12 @@ use native.Mathlib.Omega.{arith}
 use native.Mathlib.Decide.{decLt}
 use lib.Dec.{eqb}
 use borrow.Author.Tests.{eq-eqb, eqb-true}
-use Rattle.sets.specs.Set.{has, setOf, Subset, digit}
+use Rattle.sets.specs.Set.{has, setOf, digit}
 use Rattle.sets.specs.laws.Bools.{either, clash, not-false, not-yes}
 use Rattle.sets.specs.laws.Members.{has-none}
 use Rattle.sets.specs.laws.Bounds.{has-out}
 use Rattle.sets.specs.laws.Build.{has-setOf, has-setOf-out, is-setOf}
-use Rattle.sets.specs.laws.Subsets.{subset-of-minus, minus-of-subset, disjoint-of-meet, meet-none}
+use Rattle.sets.specs.laws.Subsets.{disjoint-of-meet, meet-none}
 use Rattle.sets.specs.laws.Any.{all-yes, all-why}
 use Rattle.network.specs.declared.Peer.{Peer}
 use Rattle.network.specs.declared.Topic.{Topic}
@@ -22,9 +22,18 @@ use Rattle.network.specs.declared.Network.{Network}
 use Rattle.network.specs.Network.{peer, topic, message, neighboursOf, pendingOf, knownOf, present, subscribed, linked, pending, saw, knows, Shaped}
 use Rattle.network.specs.Sound.{Empty, Sound}
 use Rattle.network.specs.laws.SoundLaws.{linked-peer, linked-other, pending-peer}
-use Rattle.network.specs.Rules.{emptyRight, ownRight, nearRight, backRight, knownRight, apartRight, absentFault, presentFault, headOf}
+use Rattle.network.specs.Rules.{emptyRight, ownRight, nearAt, nearRight, backAt, backRight, knownAt, knownRight, apartRight, absentFault, presentFault, headOf}
 use Rattle.network.specs.laws.Rules.{faultIn}
 use Rattle.network.specs.laws.Faults.{need-met, empty-why, fault-empty, fault-none, fault-absent, fault-present}
+
+-- what a rule asks of each neighbour: that something holds where it is listed
+implied : (x : Bool) {y : Bool} → x ≡ true → not x || y ≡ true → y ≡ true
+implied true e k = k
+implied false e k = clash e refl
+
+implies : (x : Bool) {y : Bool} → (x ≡ true → y ≡ true) → not x || y ≡ true
+implies true h = h refl
+implies false h = refl
 
 -- ---- a record with no fault keeps every rule
 
@@ -39,16 +48,16 @@ record Keeps (n : Network) (p : Peer) : Type 0 where
 keeps : (n : Network) (p : Peer) → presentFault n p ≡ 0 → Keeps n p
 unfolding presentFault
 keeps n p h =
-    let a = need-met (ownRight n p) 2 _ h in
-    let b = need-met (nearRight n p) 3 _ (a .1) in
-    let c = need-met (backRight n p) 4 _ (b .1) in
-    let d = need-met (knownRight n p) 5 _ (c .1) in
-    let e = need-met (apartRight n p) 6 0 (d .1) in
+    let a = need-met (ownRight n p) 21 _ h in
+    let b = need-met (nearRight n p) 22 _ (a .1) in
+    let c = need-met (backRight n p) 23 _ (b .1) in
+    let d = need-met (knownRight n p) 24 _ (c .1) in
+    let e = need-met (apartRight n p) 25 0 (d .1) in
     record { own = a .0; near = b .0; back = c .0; known = d .0; apart = e .0 }
 
 empties : (n : Network) (p : Peer) → absentFault n p ≡ 0 → Empty n p
 unfolding absentFault
-empties n p h = empty-why n p (need-met (emptyRight n p) 1 0 h .0)
+empties n p h = empty-why n p (need-met (emptyRight n p) 20 0 h .0)
 
 module _ (n : Network) (s : Shaped n) (f : (p : Peer) → p .0 < 32 → faultIn n p ≡ 0) where
   absent-empty : (p : Peer) → p .0 < 32 → present n p ≡ false → Empty n p
@@ -70,16 +79,12 @@ module _ (n : Network) (s : Shaped n) (f : (p : Peer) → p .0 < 32 → faultIn 
   sound-own p = not-false λ h. clash h (not-yes (linked n p p) (listing p p h .own))
 
   sound-near : (p q : Peer) → linked n p q ≡ true → present n q ≡ true
-  unfolding nearRight Subset
-  sound-near p q h = subset-of-minus (neighboursOf n p) (n .present) (eqb-true _ _ (listing p q h .near)) (q .0) h
+  unfolding nearRight
+  sound-near p q h = implied (linked n p q) h (all-why 32 (nearAt n p) (listing p q h .near) (q .0) (linked-other s p q h))
 
   sound-back : (p q : Peer) → linked n p q ≡ true → linked n q p ≡ true
   unfolding backRight
-  sound-back p q h = go (linked n p q) h (all-why 32 (λ (i : ℕ). not (linked n p (peer i)) || linked n (peer i) p) (listing p q h .back) (q .0) (linked-other s p q h))
-    where
-      go : (x : Bool) → x ≡ true → not x || linked n q p ≡ true → linked n q p ≡ true
-      go true e k = k
-      go false e k = clash e refl
+  sound-back p q h = implied (linked n p q) h (all-why 32 (backAt n p) (listing p q h .back) (q .0) (linked-other s p q h))
 
   sound-apart : (p : Peer) (m : Message) → pending n p m ≡ true → saw n p m ≡ false
   unfolding apartRight
@@ -90,7 +95,7 @@ module _ (n : Network) (s : Shaped n) (f : (p : Peer) → p .0 < 32 → faultIn 
   known-word : (p : Peer) (t : Topic) → t .0 < 32 → Keeps n p → knownOf n p t ≡ setOf 32 (λ (q : ℕ). linked n p (peer q) && subscribed n (peer q) t)
   unfolding knownRight
   known-word p t b k =
-      eqb-true _ _ (all-why 32 (λ (u : ℕ). eqb (knownOf n p (topic u)) (setOf 32 (λ (q : ℕ). linked n p (peer q) && subscribed n (peer q) (topic u)))) (k .known) (t .0) b)
+      eqb-true _ _ (all-why 32 (knownAt n p) (k .known) (t .0) b)
 
   knows-present : (p : Peer) (t : Topic) (q : Peer) → t .0 < 32 → Keeps n p → knows n p t q ≡ linked n p q && subscribed n q t
   knows-present p t q b k = ap (λ (w : ℕ). has w (q .0)) (known-word p t b k) ∙ go (decLt (q .0) 32)
@@ -131,19 +136,15 @@ faults-sound {n} s f =
 module _ (n : Network) (s : Sound n) (p : Peer) (b : p .0 < 32) where
   kept-back : backRight n p ≡ true
   unfolding backRight
-  kept-back = all-yes 32 _ λ q l. go q (linked n p (peer q)) (s .back p (peer q))
-    where
-      go : (q : ℕ) (x : Bool) → (x ≡ true → linked n (peer q) p ≡ true) → not x || linked n (peer q) p ≡ true
-      go q true h = h refl
-      go q false h = refl
+  kept-back = all-yes 32 _ λ q l. implies _ (s .back p (peer q))
 
   kept-known : knownRight n p ≡ true
   unfolding knownRight
   kept-known = all-yes 32 _ λ t l. eq-eqb _ _ (is-setOf 32 _ _ (s .shaped .known-fit _) λ q c. s .knows p (topic t) (peer q) b l)
 
   kept-near : nearRight n p ≡ true
-  unfolding nearRight Subset
-  kept-near = eq-eqb _ _ (minus-of-subset (neighboursOf n p) (n .present) λ i h. s .near p (peer i) h)
+  unfolding nearRight
+  kept-near = all-yes 32 _ λ q l. implies _ (s .near p (peer q))
 
   kept-apart : apartRight n p ≡ true
   unfolding apartRight

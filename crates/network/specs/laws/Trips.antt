@@ -16,9 +16,9 @@ use Rattle.endian.specs.laws.Le.{Bytes, le-4, le-8}
 use Rattle.network.specs.declared.Network.{Network}
 use Rattle.network.specs.Network.{peer, Shaped}
 use Rattle.network.specs.Sound.{Sound}
-use Rattle.network.specs.Rules.{faultOf, lowestFault}
+use Rattle.network.specs.Rules.{faultOf, checked}
 use Rattle.network.specs.laws.Rules.{faultIn}
-use Rattle.network.specs.State.{word, wordIn, long, longIn, knownIn, netOf, faultAt, blankNet, opened, openOf, wordAt, wordOf, byteOf, bytesOf, checked, writeOf, writtenOf}
+use Rattle.network.specs.State.{word, wordIn, long, longIn, knownIn, netOf, faultAt, blankNet, opened, openOf, wordAt, wordOf, byteOf, bytesOf, writeOf, writtenOf}
 use Rattle.network.specs.laws.Storing.{word-of, word-known, byte-of}
 use Rattle.network.specs.laws.Zeros.{getD-zeros}
 use Rattle.network.specs.laws.Opening.{open-0}
@@ -26,7 +26,7 @@ use Rattle.network.specs.laws.Writing.{write-0}
 use Rattle.network.specs.laws.SameNetwork.{mk-same}
 use Rattle.network.specs.laws.SoundIff.{sound-faults}
 use Rattle.network.specs.laws.OpenedSound.{blank-sound, word-lt, head-is, fault-head-right, accepted}
-use Rattle.network.specs.laws.Faults.{none-faulty, faultless}
+use Rattle.network.specs.laws.Faults.{verdict-none}
 
 -- ---- reading, then writing
 
@@ -84,7 +84,7 @@ pub read-write : (b : List ℕ) → Bytes b → openOf b .number ≡ 0 → bytes
 unfolding bytesOf
 read-write b h e =
     let a = accepted b e in
-    let heads : (p : ℕ) → p < 32 → wordIn b p 0 < 2 = λ p l. fault-head-right _ _ _ (none-faulty _ _ (a .sound) p l) in
+    let heads : (p : ℕ) → p < 32 → wordIn b p 0 < 2 = λ p l. fault-head-right _ _ _ (a .sound p l) in
     rw (a .is) (sym (is-tab 5120 (byteOf (netOf b)) b (a .long) λ i l. sym (bytes-back b h heads i l)))
 
 -- ---- writing, then reading
@@ -180,16 +180,13 @@ unfolding bytesOf
 bytes-long n = length-tab 5120 (byteOf n)
 
 -- "and the reverse"
-pub write-read : {n : Network} → Sound n → openOf (bytesOf n) ≡ opened 0 0 n
+pub write-read : {n : Network} → Sound n → openOf (bytesOf n) ≡ opened 0 0 0 n
 write-read {n} s =
-    sym (open-0 (bytesOf n) 32 (bytes-long n) (faultless _ _ λ p l. written-fault n (s .shaped) p l ∙ sound-faults s (peer p) l) (omega arith) (sym (net-back n (s .shaped))))
+    sym (open-0 (bytesOf n) (bytes-long n) (verdict-none _ _ λ p l. written-fault n (s .shaped) p l ∙ sound-faults s (peer p) l) refl (sym (net-back n (s .shaped))))
 
 -- a sound network is never refused
-pub sound-lowest : {n : Network} → Sound n → 32 ≡ lowestFault n
-sound-lowest s = faultless _ _ λ p l. sound-faults s (peer p) l
-
-pub write-sound : {n : Network} → Sound n → (b : List ℕ) → length b ≡ 5120 → (checked 0 0 ≡ writeOf n b) × (bytesOf n ≡ writtenOf n b)
-write-sound {n} s b h = write-0 n b h (sound-lowest s) (omega arith) refl
+pub write-sound : {n : Network} → Sound n → (b : List ℕ) → length b ≡ 5120 → (checked 0 0 0 ≡ writeOf n b) × (bytesOf n ≡ writtenOf n b)
+write-sound {n} s b h = write-0 n b h (verdict-none _ _ λ p l. sound-faults s (peer p) l) refl refl
 
 -- ---- "A blank network is 5,120 zero bytes."
 
@@ -211,5 +208,5 @@ blank-bytes =
     sym (is-tab 5120 (byteOf blankNet) (replicate 5120 0) (length-replicate {A = ℕ} 5120 0) λ i l.
     getD-zeros 5120 i ∙ sym (ap (λ (w : ℕ). w / 256 ^ (i % 4) % 256) (blank-word (i / 4 / 40) (i / 4 % 40)) ∙ ap (λ (x : ℕ). x % 256) (zero-div (256 ^ (i % 4)))))
 
-pub blank-opens : openOf (replicate 5120 0) ≡ opened 0 0 blankNet
+pub blank-opens : openOf (replicate 5120 0) ≡ opened 0 0 0 blankNet
 blank-opens = ap openOf (sym blank-bytes) ∙ write-read blank-sound

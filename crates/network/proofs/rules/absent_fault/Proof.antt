@@ -1,7 +1,7 @@
 -- `network::rules::absent_fault` meets its contract. Assumes nothing.
 use borrow.Author.Needs.{needs}
 use mathlib.Core.Path.{sym, _∙_}
-use Rattle.network.specs.laws.Faults.{fault-2, fault-empty}
+use Rattle.network.specs.laws.Faults.{fault-21, fault-empty}
 use Rattle.network.proofs.Tests.{row-empty-why, row-empty-not}
 use borrow.Author.Needs.{needs}
 use Rattle.network.proofs.rules.absent_fault.Statement.{statement}
@@ -17,7 +17,7 @@ element-copy-out-if1 : tie.Need-element-copy-out-if1
 element-copy-out-if1 c = search needs
 
 returns : tie.Need-returns
-returns c = λ n. fault-2 _ _ λ e. c .if1 .taken (e .pubs)
+returns c = λ n. fault-21 _ _ λ e. c .if1 .taken (e .pubs)
 
 mul-if2 : tie.Need-mul-if2
 mul-if2 c = search needs
@@ -26,7 +26,7 @@ element-copy-out-if2 : tie.Need-element-copy-out-if2
 element-copy-out-if2 c = search needs
 
 returns-2 : tie.Need-returns-2
-returns-2 c = λ n. fault-2 _ _ λ e. c .if2 .taken (e .subs)
+returns-2 c = λ n. fault-21 _ _ λ e. c .if2 .taken (e .subs)
 
 mul-if3 : tie.Need-mul-if3
 mul-if3 c = search needs
@@ -35,7 +35,7 @@ element-copy-out-if3 : tie.Need-element-copy-out-if3
 element-copy-out-if3 c = search needs
 
 returns-3 : tie.Need-returns-3
-returns-3 c = λ n. fault-2 _ _ λ e. c .if3 .taken (e .neighbours)
+returns-3 c = λ n. fault-21 _ _ λ e. c .if3 .taken (e .neighbours)
 
 mul-if4 : tie.Need-mul-if4
 mul-if4 c = search needs
@@ -44,7 +44,7 @@ element-copy-out-if4 : tie.Need-element-copy-out-if4
 element-copy-out-if4 c = search needs
 
 returns-4 : tie.Need-returns-4
-returns-4 c = λ n. fault-2 _ _ λ e. c .if4 .taken (e .pending)
+returns-4 c = λ n. fault-21 _ _ λ e. c .if4 .taken (e .pending)
 
 mul-if5 : tie.Need-mul-if5
 mul-if5 c = search needs
@@ -53,7 +53,7 @@ element-copy-out-if5 : tie.Need-element-copy-out-if5
 element-copy-out-if5 c = search needs
 
 returns-5 : tie.Need-returns-5
-returns-5 c = λ n. fault-2 _ _ λ e. c .if5 .taken (e .seen)
+returns-5 c = λ n. fault-21 _ _ λ e. c .if5 .taken (e .seen)
 
 row-empty-requires : tie.Need-row-empty-requires
 row-empty-requires c κs = search needs
@@ -71,7 +71,7 @@ returns-6 c =
     })
 
 returns-7 : tie.Need-returns-7
-returns-7 c = λ n. fault-2 _ _ λ e. row-empty-not _ _ (sym (c .before .row-empty .ensures) ∙ c .if6 .left) (e .known)
+returns-7 c = λ n. fault-21 _ _ λ e. row-empty-not _ _ (sym (c .before .row-empty .ensures) ∙ c .if6 .left) (e .known)
 
 pub absent-fault-spec : {M : Type 1} → statement M
 absent-fault-spec =

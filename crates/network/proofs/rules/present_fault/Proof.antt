@@ -6,8 +6,8 @@ use borrow.Author.Tests.{eq-eqb, ne-eqb}
 use Rattle.sets.specs.laws.Bools.{not-yes, not-no}
 use Rattle.network.specs.declared.Network.{Network}
 use Rattle.network.specs.Network.{withPresent, withSubs, withNeighbours, withPending, withSeen, withKnown}
-use Rattle.network.specs.Rules.{ownRight, nearRight, backRight, knownRight, apartRight}
-use Rattle.network.specs.laws.Faults.{fault-3, fault-4, fault-5, fault-6, fault-7, fault-none}
+use Rattle.network.specs.Rules.{ownRight, nearAt, nearRight, backAt, backRight, knownRight, apartRight}
+use Rattle.network.specs.laws.Faults.{fault-22, fault-23, fault-24, fault-25, fault-26, fault-none}
 use Rattle.network.proofs.Tests.{rule-kept, rule-broken, near-is, back-is, same-is}
 use borrow.Author.Needs.{needs}
 use Rattle.network.proofs.rules.present_fault.Statement.{statement}
@@ -40,12 +40,12 @@ unfolding ownRight
 own n c = ap not (sym (c .before .has32 .ensures) ∙ c .if1 .left)
 
 near : (n : Network) (c : tie.Else2) → nearRight (net n (start2 c)) (start2 c .args .p) ≡ true
-near n c =
-    let a = c .before .near-absent .ensures in
-    rule-kept (near-is (net n (start2 c)) (start2 c .args .p) (a .1)) (a .0) (c .if2 .left)
+unfolding nearRight
+near n c = rule-kept (nearAt (net n (start2 c)) (start2 c .args .p)) (near-is (net n (start2 c)) (start2 c .args .p)) (c .before .near-absent .ensures) (c .if2 .left)
 
 back : (n : Network) (c : tie.Else3) → backRight (net n (start3 c)) (start3 c .args .p) ≡ true
-back n c = rule-kept (back-is (net n (start3 c)) (start3 c .args .p)) (c .before .list-back .ensures) (c .if3 .left)
+unfolding backRight
+back n c = rule-kept (backAt (net n (start3 c)) (start3 c .args .p)) (back-is (net n (start3 c)) (start3 c .args .p)) (c .before .list-back .ensures) (c .if3 .left)
 
 known : (n : Network) (c : tie.Else4) → knownRight (net n (start4 c)) (start4 c .args .p) ≡ true
 known n c = sym (same-is (net n (start4 c)) (start4 c .args .p) (start4 c .pre .1)) ∙ sym (c .before .row-same .ensures) ∙ not-no _ (c .if4 .left)
@@ -67,24 +67,26 @@ has32-requires c κs = search needs
 
 returns : tie.Need-returns
 unfolding ownRight
-returns c = λ n. fault-3 _ _ (ap not (sym (c .before .has32 .ensures) ∙ c .if1 .taken))
+returns c = λ n. fault-22 _ _ (ap not (sym (c .before .has32 .ensures) ∙ c .if1 .taken))
 
 near-absent-requires : tie.Need-near-absent-requires
 near-absent-requires c κs = search needs
 
 returns-2 : tie.Need-returns-2
+unfolding nearRight
 returns-2 c =
     let e1 = c .before .before in
-    let a = c .before .near-absent .ensures in
-    λ n. fault-4 (net n (start1 e1)) (start1 e1 .args .p) (own n e1) (rule-broken (near-is (net n (start1 e1)) (start1 e1 .args .p) (a .1)) (a .0) (c .if2 .taken))
+    λ n. fault-23 _ _ (own n e1) (rule-broken (nearAt (net n (start1 e1)) (start1 e1 .args .p)) (near-is (net n (start1 e1)) (start1 e1 .args .p)) (c .before .near-absent .ensures) (c .if2 .taken))
 
 list-back-requires : tie.Need-list-back-requires
 list-back-requires c κs = search needs
 
 returns-3 : tie.Need-returns-3
+unfolding backRight
 returns-3 c =
     let e2 = c .before .before in
-    λ n. fault-5 _ _ (own n (e2 .before .before)) (near n e2) (rule-broken (back-is (net n (start2 e2)) (start2 e2 .args .p)) (c .before .list-back .ensures) (c .if3 .taken))
+    λ n. fault-24 _ _ (own n (e2 .before .before)) (near n e2)
+    (rule-broken (backAt (net n (start2 e2)) (start2 e2 .args .p)) (back-is (net n (start2 e2)) (start2 e2 .args .p)) (c .before .list-back .ensures) (c .if3 .taken))
 
 row-same-requires : tie.Need-row-same-requires
 row-same-requires c κs = search needs
@@ -93,7 +95,7 @@ returns-4 : tie.Need-returns-4
 returns-4 c =
     let e3 = c .before .before in
     let e2 = e3 .before .before in
-    λ n. fault-6 _ _ (own n (e2 .before .before)) (near n e2) (back n e3)
+    λ n. fault-25 _ _ (own n (e2 .before .before)) (near n e2) (back n e3)
     (sym (same-is (net n (start3 e3)) (start3 e3 .args .p) (start3 e3 .pre .1)) ∙ sym (c .before .row-same .ensures) ∙ not-yes _ (c .if4 .taken))
 
 mul-meet64 : tie.Need-mul-meet64
@@ -117,7 +119,7 @@ returns-5 c =
     let e4 = passed (c .before) in
     let e3 = e4 .before .before in
     let e2 = e3 .before .before in
-    λ n. fault-7 _ _ (own n (e2 .before .before)) (near n e2) (back n e3) (known n e4) (ne-eqb _ _ λ e. c .if5 .taken (c .before .meet64 .ensures ∙ e))
+    λ n. fault-26 _ _ (own n (e2 .before .before)) (near n e2) (back n e3) (known n e4) (ne-eqb _ _ λ e. c .if5 .taken (c .before .meet64 .ensures ∙ e))
 
 returns-6 : tie.Need-returns-6
 unfolding apartRight

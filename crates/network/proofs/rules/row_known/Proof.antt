@@ -7,13 +7,13 @@ use native.Mathlib.Omega.{arith}
 use borrow.Author.Tests.{eq-eqb, ne-eqb}
 use Rattle.sets.specs.Least.{lowestOf}
 use Rattle.sets.specs.laws.Least.{lowestOf-all, lowestOf-start, lowestOf-on, lowestOf-found}
-use Rattle.network.specs.Tests.{knownAt, rowKnown}
+use Rattle.network.specs.Tests.{sameAt, rowKnown}
 use Rattle.network.proofs.Tests.{known-at}
 use Rattle.network.proofs.rules.row_known.Statement.{statement}
 use Rattle.network.proofs.rules.row_known.Tie as tie
 
 abbrev Inv-loop : tie.InvT-loop
-Inv-loop known subscribers listed p t₀ t = (t ≤ 32) × (t ≡ lowestOf t (λ (u : ℕ). not (knownAt known subscribers listed p u)))
+Inv-loop known subscribers listed p t₀ t = (t ≤ 32) × (t ≡ lowestOf t (λ (u : ℕ). not (sameAt known subscribers listed p u)))
 
 abbrev μ-loop : tie.MeasureT-loop
 μ-loop known subscribers listed p t₀ t = 32 - t

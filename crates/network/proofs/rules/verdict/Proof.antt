@@ -1,20 +1,19 @@
--- `network::rules::lowest_fault` meets its contract. Assumes nothing.
+-- `network::rules::verdict` meets its contract. Assumes nothing.
 use borrow.Author.Needs.{needs}
 use mathlib.Core.Path.{_≡_}
-use Prim.Native.Nat.{ℕ, _-_, _≤_}
+use Prim.Native.Nat.{ℕ, _-_, _≤_, _<_}
 use native.Mathlib.Omega.{arith}
 use lib.ListN.{getD}
-use Rattle.sets.specs.Least.{lowestOf}
-use Rattle.sets.specs.laws.Least.{lowestOf-start}
 use Rattle.network.specs.declared.Network.{Network}
-use Rattle.network.specs.Network.{withAll}
-use Rattle.network.specs.Rules.{faulty}
-use Rattle.network.specs.laws.Faults.{faulty-on, faulty-found, faulty-none}
-use Rattle.network.proofs.rules.lowest_fault.Statement.{statement}
-use Rattle.network.proofs.rules.lowest_fault.Tie as tie
+use Rattle.network.specs.Network.{peer, withPubs, withPending, withSeen, withAll}
+use Rattle.network.specs.Rules.{faultOf}
+use Rattle.network.specs.laws.Faults.{verdict-none, clean-more, verdict-one}
+use Rattle.network.proofs.rules.verdict.Statement.{statement}
+use Rattle.network.proofs.rules.verdict.Tie as tie
 
 abbrev Inv-loop : tie.InvT-loop
-Inv-loop heads present pubs subs neighbours pending seen known subscribers p₀ p = (p ≤ 32) × ((n : Network) → p ≡ lowestOf p (faulty (λ (i : ℕ). getD heads i 0) (withAll n present pubs subs neighbours pending seen known)))
+Inv-loop heads present pubs subs neighbours pending seen known subscribers p₀ p =
+    (p ≤ 32) × ((n : Network) (q : ℕ) → q < p → faultOf (getD heads q 0) (withAll n present pubs subs neighbours pending seen known) (peer q) ≡ 0)
 
 abbrev μ-loop : tie.MeasureT-loop
 μ-loop heads present pubs subs neighbours pending seen known subscribers p₀ p = 32 - p
@@ -27,7 +26,7 @@ subscribers-requires : tie.Need-subscribers-requires Inv-loop μ-loop
 subscribers-requires c κs = search needs
 
 loop-holds : tie.Need-loop-holds Inv-loop μ-loop
-loop-holds c = (search needs, λ n. lowestOf-start _)
+loop-holds c = (search needs, λ n q l. absurd (omega arith))
 
 cast-i : tie.Need-cast-i Inv-loop μ-loop
 cast-i c = search needs
@@ -41,10 +40,14 @@ element-copy-out-fault c = search needs
 fault-requires : tie.Need-fault-requires Inv-loop μ-loop
 fault-requires c κs = search needs
 
+detail-requires : tie.Need-detail-requires Inv-loop μ-loop
+detail-requires c κs = search needs
+
 returns : tie.Need-returns Inv-loop μ-loop
 returns c =
-    let l = inside (c .before) .before .loop in
-    λ n. faulty-found _ _ (l .p) (l .inv .1 n) (search needs) (c .before .fault .ensures n) (c .if1 .taken)
+    let f = c .before .before .before in
+    let l = inside f .before .loop in
+    λ n. verdict-one _ _ (l .p) (search needs) (l .inv .1 n) (f .fault .ensures n) (c .before .before .if1 .taken) (c .detail .ensures (withPubs (withPending (withSeen n _) _) _))
 
 add-p : tie.Need-add-p Inv-loop μ-loop
 add-p c = search needs
@@ -55,13 +58,13 @@ loop-less c = search needs
 loop-again : tie.Need-loop-again Inv-loop μ-loop
 loop-again c =
     let l = inside (c .before) .before .loop in
-    (search needs, λ n. faulty-on _ _ _ (l .inv .1 n) (c .before .fault .ensures n) (c .if1 .left))
+    (search needs, λ n. clean-more _ _ (l .p) (l .inv .1 n) (c .before .fault .ensures n) (c .if1 .left))
 
 returns-2 : tie.Need-returns-2 Inv-loop μ-loop
-returns-2 c = λ n. faulty-none _ _ _ (c .before .loop .inv .1 n) (omega arith)
+returns-2 c = λ n. verdict-none _ _ λ p l. c .before .loop .inv .1 n p (omega arith)
 
-pub lowest-fault-spec : {M : Type 1} → statement M
-lowest-fault-spec =
+pub verdict-spec : {M : Type 1} → statement M
+verdict-spec =
     tie.close
     (tie.spec
     Inv-loop
@@ -72,6 +75,7 @@ lowest-fault-spec =
     mul-fault
     element-copy-out-fault
     fault-requires
+    detail-requires
     returns
     add-p
     loop-less

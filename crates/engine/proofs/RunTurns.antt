@@ -10,7 +10,7 @@ use Rattle.events.specs.Event.{readAt}
 use Rattle.floodnet.specs.declared.Turned.{Turned}
 use Rattle.engine.specs.declared.Tally.{Tally}
 use Rattle.engine.specs.declared.Ran.{Ran}
-use Rattle.engine.specs.Run.{talliedOf, turnOf, Turn, Final, stopsAt, allDone, RunsTo}
+use Rattle.engine.specs.Run.{answered, talliedOf, turnOf, Turn, Final, stopsAt, allDone, RunsTo}
 use Rattle.engine.specs.RunLaws.{outcomeAt}
 use Rattle.engine.proofs.RunLoop.{Going, going-on, going-stop, going-end}
 use Rattle.engine.proofs.TurnLaws.{refused-same}

@@ -5,6 +5,7 @@ pub mod Listing
 pub mod Network
 pub mod OpenedSound
 pub mod Opening
+pub mod RuleLaws
 pub mod Rules
 pub mod SameNetwork
 pub mod SoundIff

@@ -123,9 +123,9 @@ pub fn read(state: &[u8]) -> Opened
         return refused(verdict.number, verdict.place, verdict.detail);
     }
     Opened {
-        number: 0,
-        place: 0,
-        detail: 0,
+        number: verdict.number,
+        place: verdict.place,
+        detail: verdict.detail,
         network,
     }
 }

@@ -1,12 +1,12 @@
 // A test program over the crate `network`: it reads, damages and writes states and tables, and prints what document 01 says for each
-// refusal ("Records" for the rules, "Numbers returned" 1, 2, 4 and 5 for the numbers and places).
+// refusal ("Records" for the rules, "Numbers returned" 1, 2 and 4), and document 02's E1 for an unsound state.
 //
-// A line says what was damaged, then the number and the place of the answer, then what was left behind: `blank` (a refused read answers
-// the blank state), `untouched` (a refused write leaves its buffer), `same` (read and written back),
-// `as given` (set byte by byte in this program), `zeros` (a refused table). The file `stdout` beside src/ has
-// each line as it has to be. The rules are numbered as in `network`'s specs/Rules.antt:
-//   1 the first four bytes, 2 absent and not empty, 3 own neighbour, 4 a neighbour absent, 5 a neighbour that does not list back,
-//   6 known subscribers, 7 pending also seen.
+// A line says what was damaged, then the number and the place of the answer (and of a state the detail), then what was left behind:
+// `blank` (a refused read answers the blank state), `untouched` (a refused write leaves its buffer), `same` (read and written back),
+// `as given` (set byte by byte in this program), `zeros` (a refused table). The file `stdout` beside src/ has each line as it has to be,
+// worked out by hand. The rules go by their numbers:
+//   20 the first four bytes, 21 absent and not empty, 22 own neighbour, 23 a neighbour absent, 24 a neighbour that does not list back,
+//   25 known subscribers, 26 pending also seen.
 //
 // Read on: states (the sound states), reads, writes, tables (the cases), print (a line).
 mod print;
@@ -18,23 +18,24 @@ mod writes;
 fn main() {
     reads::accepted();
     reads::lengths();
-    reads::rule_1();
-    reads::rule_2_first();
-    reads::rule_2_last();
-    reads::rule_3();
-    reads::rule_4();
-    reads::rule_5();
-    reads::rule_6();
-    reads::rule_7();
+    reads::rule_20();
+    reads::rule_21_first();
+    reads::rule_21_last();
+    reads::rule_22();
+    reads::rule_23();
+    reads::rule_24();
+    reads::rule_25();
+    reads::rule_26();
     reads::lowest();
+    reads::lowest_detail();
     writes::accepted();
     writes::lengths();
-    writes::rule_2();
-    writes::rule_3();
-    writes::rule_4();
-    writes::rule_5();
-    writes::rule_6();
-    writes::rule_7();
+    writes::rule_21();
+    writes::rule_22();
+    writes::rule_23();
+    writes::rule_24();
+    writes::rule_25();
+    writes::rule_26();
     tables::accepted();
     tables::lengths();
     tables::rows();

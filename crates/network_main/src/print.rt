@@ -32,14 +32,27 @@ pub(crate) fn byte(at: usize, x: u8) {
     word(b" = ", wide(x));
 }
 
-// `: N P`, the answer; then the word that says what was left behind, or that it was not; and the end of the line.
-pub(crate) fn answer(number: u8, place: usize, left: &[u8], is_left: bool) {
-    word(b": ", wide(number));
-    word(b" ", place as u64);
+// The word that says what was left behind, or that it was not; and the end of the line.
+fn ending(left: &[u8], is_left: bool) {
     io::write_all(1, b" ");
     if !is_left {
         io::write_all(1, b"NOT ");
     }
     io::write_all(1, left);
     io::write_all(1, b"\n");
+}
+
+// `: N P`, the answer, and what was left behind.
+pub(crate) fn answer(number: u8, place: usize, left: &[u8], is_left: bool) {
+    word(b": ", wide(number));
+    word(b" ", place as u64);
+    ending(left, is_left);
+}
+
+// The same with the detail: `: N P D`.
+pub(crate) fn detailed(number: u8, place: usize, detail: u8, left: &[u8], is_left: bool) {
+    word(b": ", wide(number));
+    word(b" ", place as u64);
+    word(b" ", wide(detail));
+    ending(left, is_left);
 }

@@ -1,5 +1,5 @@
 // Writing a network: an unsound one and a wrong length are refused, and the buffer stays as it was. A network has no first four bytes, so
-// rule 1 can't be broken in it.
+// rule 20 can't be broken in it.
 use crate::print;
 use crate::states;
 use network::Network;
@@ -8,6 +8,7 @@ use network::Network;
 struct After {
     number: u8,
     place: usize,
+    detail: u8,
     bytes: [u8; 5120],
 }
 
@@ -18,6 +19,7 @@ fn write_over(n: Network) -> After {
     After {
         number: wrote.number,
         place: wrote.place,
+        detail: wrote.detail,
         bytes,
     }
 }
@@ -27,9 +29,10 @@ pub(crate) fn accepted() {
     let after = write_over(states::linked());
     let bytes = after.bytes;
     io::write_all(1, b"write, sound");
-    print::answer(
+    print::detailed(
         after.number,
         after.place,
+        after.detail,
         b"as given",
         print::same(&bytes, &states::linked_by_hand()),
     );
@@ -41,9 +44,10 @@ fn refused(rule: u64, fault: u64, n: Network) {
     let bytes = after.bytes;
     print::word(b"write, rule ", rule);
     print::word(b" at ", fault);
-    print::answer(
+    print::detailed(
         after.number,
         after.place,
+        after.detail,
         b"untouched",
         print::same(&bytes, &[170u8; 5120]),
     );
@@ -55,9 +59,10 @@ fn length(state: &mut [u8], before: &[u8]) {
     n.neighbours[0] = 0;
     let wrote = network::write(n, &mut *state);
     print::word(b"write, length ", before.len() as u64);
-    print::answer(
+    print::detailed(
         wrote.number,
         wrote.place,
+        wrote.detail,
         b"untouched",
         print::same(state, before),
     );
@@ -70,62 +75,62 @@ pub(crate) fn lengths() {
     length(&mut [170u8; 5120], &[170u8; 5120]);
 }
 
-pub(crate) fn rule_2() {
+pub(crate) fn rule_21() {
     let mut n = states::alone();
     n.subs[0] = 1;
-    refused(2, 0, n);
+    refused(21, 0, n);
     let mut n = network::blank();
     n.known[1023] = 1;
-    refused(2, 31, n);
+    refused(21, 31, n);
 }
 
-pub(crate) fn rule_3() {
+pub(crate) fn rule_22() {
     let mut n = states::linked();
     n.neighbours[0] = 0x8000_0003;
     n.known[1] = 1;
-    refused(3, 0, n);
+    refused(22, 0, n);
     let mut n = states::linked();
     n.neighbours[31] = 0x8000_0001;
     n.known[992] = 0x8000_0000;
     n.known[1023] = 0x8000_0000;
-    refused(3, 31, n);
+    refused(22, 31, n);
 }
 
-pub(crate) fn rule_4() {
+pub(crate) fn rule_23() {
     let mut n = states::linked();
     n.neighbours[0] = 0x8000_0006;
     n.neighbours[2] = 1;
-    refused(4, 0, n);
+    refused(23, 0, n);
     let mut n = states::linked();
     n.neighbours[31] = 5;
-    refused(4, 31, n);
+    refused(23, 31, n);
 }
 
-pub(crate) fn rule_5() {
+pub(crate) fn rule_24() {
     let mut n = states::linked();
     n.neighbours[1] = 0;
     n.known[33] = 0;
-    refused(5, 0, n);
+    refused(24, 0, n);
     let mut n = states::linked();
     n.neighbours[31] = 3;
     n.known[992] = 2;
-    refused(5, 31, n);
+    refused(24, 31, n);
 }
 
-pub(crate) fn rule_6() {
+pub(crate) fn rule_25() {
     let mut n = states::linked();
     n.known[31] = 0;
-    refused(6, 0, n);
+    refused(25, 0, n);
     let mut n = states::linked();
     n.known[1023] = 1;
-    refused(6, 31, n);
+    refused(25, 31, n);
 }
 
-pub(crate) fn rule_7() {
+pub(crate) fn rule_26() {
     let mut n = states::linked();
     n.seen[0] = 96;
-    refused(7, 0, n);
+    refused(26, 0, n);
     let mut n = states::linked();
     n.seen[31] = 0x8000_0000_0000_0001;
-    refused(7, 31, n);
+    refused(26, 31, n);
 }

@@ -12,11 +12,11 @@ use Rattle.lists.specs.Tab.{tab}
 use Rattle.lists.specs.laws.Tab.{getD-tab}
 use Rattle.network.specs.declared.Network.{Network}
 use Rattle.network.specs.Network.{mk}
-use Rattle.network.specs.Rules.{checked, verdictBy}
+use Rattle.network.specs.Rules.{verdictBy}
 use Rattle.network.specs.declared.Checked.{Checked}
 use Rattle.network.specs.declared.Looked.{Looked}
 use Rattle.network.specs.declared.Opened.{Opened}
-use Rattle.network.specs.laws.Faults.{verdict-is, verdict-tab}
+use Rattle.network.specs.laws.Faults.{verdict-tab}
 use Rattle.network.specs.State.{wordIn, longIn, knownIn, netOf, verdictAt, blankNet, opened, openedBy, openOf, overOf, Opens}
 
 -- the columns make the network
@@ -50,11 +50,9 @@ pub open-refused : (b : List ℕ) {c : Checked} → length b ≡ 5120 → c ≡ 
 unfolding openOf openedBy
 open-refused b h e z = rw (eq-eqb (length b) 5120 h, ← e, ne-eqb z)
 
-pub open-0 : (b : List ℕ) {c : Checked} {n : Network} → length b ≡ 5120 → c ≡ verdictAt b → c .number ≡ 0 → n ≡ netOf b → opened 0 0 0 n ≡ openOf b
+pub open-0 : (b : List ℕ) {c : Checked} {n : Network} → length b ≡ 5120 → c ≡ verdictAt b → c .number ≡ 0 → n ≡ netOf b → opened (c .number) (c .place) (c .detail) n ≡ openOf b
 unfolding openOf openedBy
-open-0 b {c} h e z en =
-    let w : c ≡ checked 0 0 0 = e ∙ verdict-is _ _ .none (ap (λ (x : Checked). x .number) (sym e) ∙ z) .0 in
-    rw (eq-eqb (length b) 5120 h, ← e, w, en)
+open-0 b {c} h e z en = rw (eq-eqb (length b) 5120 h, ← e, z, en)
 
 -- the same of reading into lent arrays
 abbrev pub looked : ℕ → ℕ → ℕ → ℕ → Looked

@@ -21,17 +21,17 @@ use Rattle.network.specs.laws.Faults.{need-met, empty-why, fault-empty, 
 
 -- ---- a record with no fault keeps every rule
 
--- the five rules of a present record
-record Keeps (n : Network) (p : Peer) : Type 0 where
-  own : ownRight n p ≡ true
-  near : nearRight n p ≡ true
-  back : backRight n p ≡ true
-  known : knownRight n p ≡ true
-  apart : apartRight n p ≡ true
+-- the five rules of a present record, and what an absent one is
+pub record Kept (n : Network) (p : Peer) : Type 0 where
+  pub own : ownRight n p ≡ true
+  pub near : nearRight n p ≡ true
+  pub back : backRight n p ≡ true
+  pub known : knownRight n p ≡ true
+  pub apart : apartRight n p ≡ true
 
-keeps : (n : Network) (p : Peer) → presentFault n p ≡ 0 → Keeps n p
+pub kept-present : (n : Network) (p : Peer) → presentFault n p ≡ 0 → Kept n p
 unfolding presentFault
-keeps n p h =
+kept-present n p h =
     let a = need-met (ownRight n p) 21 _ h in
     let b = need-met (nearRight n p) 22 _ (a .1) in
     let c = need-met (backRight n p) 23 _ (b .1) in
@@ -39,23 +39,23 @@ keeps n p h =
     let e = need-met (apartRight n p) 25 0 (d .1) in
     record { own = a .0; near = b .0; back = c .0; known = d .0; apart = e .0 }
 
-empties : (n : Network) (p : Peer) → absentFault n p ≡ 0 → Empty n p
+pub kept-absent : (n : Network) (p : Peer) → absentFault n p ≡ 0 → Empty n p
 unfolding absentFault
-empties n p h = empty-why n p (need-met (emptyRight n p) 20 0 h .0)
+kept-absent n p h = empty-why n p (need-met (emptyRight n p) 20 0 h .0)
 
 module _ (n : Network) (s : Shaped n) (f : (p : Peer) → p .0 < 32 → faultIn n p ≡ 0) where
   absent-empty : (p : Peer) → p .0 < 32 → present n p ≡ false → Empty n p
-  absent-empty p b a = empties n p (sym (fault-absent n p (headOf n p) (ap digit a)) ∙ f p b)
+  absent-empty p b a = kept-absent n p (sym (fault-absent n p (headOf n p) (ap digit a)) ∙ f p b)
 
-  present-keeps : (p : Peer) → p .0 < 32 → present n p ≡ true → Keeps n p
-  present-keeps p b a = keeps n p (sym (fault-present n p (headOf n p) (ap digit a)) ∙ f p b)
+  present-keeps : (p : Peer) → p .0 < 32 → present n p ≡ true → Kept n p
+  present-keeps p b a = kept-present n p (sym (fault-present n p (headOf n p) (ap digit a)) ∙ f p b)
 
   -- a peer with a member in a word that is 0 for the absent keeps the rules
-  member-keeps : (p : Peer) (w i : ℕ) → p .0 < 32 → (Empty n p → w ≡ 0) → has w i ≡ true → Keeps n p
+  member-keeps : (p : Peer) (w i : ℕ) → p .0 < 32 → (Empty n p → w ≡ 0) → has w i ≡ true → Kept n p
   member-keeps p w i b e h =
       ⊎-elim (present-keeps p b) (λ a. clash h (ap (λ (x : ℕ). has x i) (e (absent-empty p b a)) ∙ has-none i)) (either (present n p))
 
-  listing : (p q : Peer) → linked n p q ≡ true → Keeps n p
+  listing : (p q : Peer) → linked n p q ≡ true → Kept n p
   listing p q h = member-keeps p (neighboursOf n p) (q .0) (linked-peer s p q h) (λ e. e .neighbours) h
 
   sound-own : (p : Peer) → linked n p p ≡ false

@@ -1,5 +1,5 @@
 -- THE CLIENT'S PAGE OF THE IMAGES: demand 2 of the minutes, "Seen through the commitment map, it is one Broadcastnet step or no change, as tabled", along a
--- run and on bytes. `image-page` (specs/laws/ImagePageLaws.antt) proves it of every outcome of `relay_run` that gets past the refusals 1 to 5.
+-- run and on bytes. `image-page` (specs/laws/ImagePageLaws.antt) proves it of every outcome of `relay_run` that gets past the refusals before any event.
 -- How to read it: `x ≡ y`: x is y; `×`: and, or, with a name in front, there is; `→`: then. The network that the record at place i meets is
 -- `reached ev b n i` (specs/RunPage.antt); `image` is the commitment map (broadcastnet's specs/Commit.antt), `Row` document 01's image table and
 -- `Step` Broadcastnet's step (its specs/Page.antt and Broadcast.antt). Assumes nothing.
@@ -9,7 +9,8 @@ use Prim.Native.Nat.{ℕ, suc, _<_}
 use lib.ListN.{length}
 use Rattle.network.specs.declared.Network.{Network}
 use Rattle.network.specs.declared.Table.{Table}
-use Rattle.network.specs.State.{checked, openOf, opened, bytesOf}
+use Rattle.network.specs.Rules.{checked}
+use Rattle.network.specs.State.{openOf, opened, bytesOf}
 use Rattle.events.specs.declared.Event.{Event}
 use Rattle.events.specs.declared.Read.the-variants.{Taken}
 use Rattle.events.specs.Event.{readAt}
@@ -25,10 +26,10 @@ use Rattle.pages.specs.RunPage.{netIn, tableIn}
 -- What `relay_image` makes of a state's bytes s that say the network n, with a second buffer of 5,120 bytes.
 pub record Imaged (s : List ℕ) (n : Network) : Type 0 where
   -- it answers 0, and writes the image as 32 peer records
-  pub answer : (buffer : List ℕ) → length buffer ≡ 5120 → imageAnswerOf s buffer ≡ checked 0 0
+  pub answer : (buffer : List ℕ) → length buffer ≡ 5120 → imageAnswerOf s buffer ≡ checked 0 0 0
   pub bytes : (buffer : List ℕ) → length buffer ≡ 5120 → imagedOf s buffer ≡ bytesOf (imageNet n)
   -- what it writes is itself a sound state, whose own image is the image of n
-  pub reads : (buffer : List ℕ) → length buffer ≡ 5120 → openOf (imagedOf s buffer) ≡ opened 0 0 (imageNet n)
+  pub reads : (buffer : List ℕ) → length buffer ≡ 5120 → openOf (imagedOf s buffer) ≡ opened 0 0 0 (imageNet n)
   pub shows : (buffer : List ℕ) → length buffer ≡ 5120 → image (openOf (imagedOf s buffer) .network) ≡ image n
 
 -- b: the table read; at i: the network that the record at place i meets

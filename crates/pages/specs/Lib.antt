@@ -1,3 +1,4 @@
+pub mod FaultPage
 pub mod StartPage
 pub mod RunReached
 pub mod RunPage

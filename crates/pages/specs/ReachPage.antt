@@ -40,6 +40,6 @@ pub record ForwardsLeave (s t : List ℕ) (b : Table) (n : Network) (l : List Fo
   -- each was accepted in its turn, as the page asks, and the bytes are those of the network after them, and are read as it
   pub accepted : Accepted b n l
   pub leaves : left ≡ bytesOf (after b n l)
-  pub reads : openOf left ≡ opened 0 0 (after b n l)
+  pub reads : openOf left ≡ opened 0 0 0 (after b n l)
   -- "The end state is the same for every order": once nothing is pending, the bytes are those of the drain with enough budget, by as many forwards
   pub at-rest : Quiet (openOf left .network) → (budget : ℕ) → 2048 ≤ budget → (left ≡ drainEndOf s t budget .state) × (length l ≡ drainEndOf s t budget .answer .forwards)

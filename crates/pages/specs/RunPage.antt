@@ -25,7 +25,7 @@ use Rattle.floodnet.specs.View.{pairs}
 use Rattle.engine.specs.declared.Tally.{Tally}
 use Rattle.engine.specs.declared.Answer.{Answer}
 use Rattle.engine.specs.Start.{beginOf}
-use Rattle.engine.specs.Run.{runOf}
+use Rattle.engine.specs.Run.{answered, runOf}
 use Rattle.engine.specs.RunCounts.{kindAt}
 use Rattle.pages.specs.RunReached.{reached, turnAt}
 
@@ -39,11 +39,12 @@ tableIn t = listOf t .table
 -- s, t, ev: the state's, the table's and the events' bytes that were lent; old: the tally. r: the answer; s′, new: the state's bytes and
 -- the tally afterwards. How many records there are: length ev / 16.
 
--- Refused by 1 to 5, before any event (specs/StartPage.antt says which exactly if what).
+-- Refused before any event (specs/StartPage.antt says by which number exactly if what).
 pub record RunRefused (s t ev : List ℕ) (old : Tally) (r : Answer) (s′ : List ℕ) (new : Tally) : Type 0 where
-  -- the number and the place are the refusal's, and no event was accepted
+  -- the number, the place and the detail are the refusal's, and no event was accepted
   pub number : r .number ≡ beginOf s t (length ev) .number
   pub place : r .place ≡ beginOf s t (length ev) .place
+  pub detail : r .detail ≡ beginOf s t (length ev) .detail
   pub accepted : r .accepted ≡ 0
   -- "all buffers, the tally included, stay untouched"
   pub state : s′ ≡ s
@@ -53,20 +54,21 @@ pub record RunRefused (s t ev : List ℕ) (old : Tally) (r : Answer) (s′ : Lis
 -- `turnAt ev b n i` is what becomes of that record there: its number, 0 if it is accepted, and its deliveries.
 pub record RunDone (s t ev : List ℕ) (old : Tally) (r : Answer) (s′ : List ℕ) (new : Tally) : Type 0 where
   -- the state written is accepted by every later reading, and holds a sound network
-  pub reads : openOf s′ ≡ opened 0 0 (netIn s′)
+  pub reads : openOf s′ ≡ opened 0 0 0 (netIn s′)
   pub sound : Sound (netIn s′)
   -- each event before the accepted count was accepted, in the network that the ones before it left; the state holds the last of these networks
   pub each : (i : ℕ) → i < r .accepted → turnAt ev (tableIn t) (netIn s) i .number ≡ 0
   pub state : netIn s′ ≡ reached ev (tableIn t) (netIn s) (r .accepted)
   pub within : r .accepted ≤ length ev / 16
-  -- 0 is answered exactly if all were accepted; the place is then 0
+  -- 0 is answered exactly if all were accepted; the place is then 0. The detail is of unsound states alone
   pub all : (r .number ≡ 0) ↔ (r .accepted ≡ length ev / 16)
   pub place : r .number ≡ 0 → r .place ≡ 0
+  pub detail : r .detail ≡ 0
   -- any other number is that of the event at that place, in the network reached there: the run stops at it
   pub stops : (r .number ≡ 0 → ⊥)
       → (r .place ≡ r .accepted) × (r .accepted < length ev / 16) × (r .number ≡ turnAt ev (tableIn t) (netIn s) (r .place) .number)
   -- "the state is that after the events before it": these, run alone on the same bytes, are all accepted, with the same state and tally
-  pub before : runOf s t (take (16 * r .accepted) ev) old ≡ record { answer = record { number = 0; place = 0; accepted = r .accepted }; tally = new; state = s′ }
+  pub before : runOf s t (take (16 * r .accepted) ev) old ≡ record { answer = answered 0 0 0 (r .accepted); tally = new; state = s′ }
   -- the tally is of the accepted events alone: how many are produces, how many forwards, and the sum of the deliveries
   pub produced : new .produced ≡ count (r .accepted) (λ i. alike (kindAt ev i) Kind.Produce)
   pub forwards : new .forwards ≡ count (r .accepted) (λ i. alike (kindAt ev i) Kind.Forward)

@@ -1,5 +1,6 @@
 -- Laws of what specs/ defines, for the crates above and for proofs. Assumes nothing.
 pub mod DrainingReach
+pub mod FaultPageLaws
 pub mod ForwardBytes
 pub mod ForwardRun
 pub mod FromBlank

@@ -23,11 +23,11 @@ pub record DrainPage (s t : List ℕ) (b : Table) (n : Network) : Type 0 where
   -- demand 3, sentence by sentence, of n
   pub page : Reach b n
   -- its answer and its state are those of the drain that the page speaks of
-  pub answers : (budget : ℕ) → drainEndOf s t budget .answer ≡ drained 0 0 (drainOf b budget n .forwards) (drainOf b budget n .rounds) (quietOf (drainOf b budget n .end))
+  pub answers : (budget : ℕ) → drainEndOf s t budget .answer ≡ drained (drainOf b budget n .forwards) (drainOf b budget n .rounds) (quietOf (drainOf b budget n .end))
   pub leaves : (budget : ℕ) → drainEndOf s t budget .state ≡ bytesOf (drainOf b budget n .end)
   -- the state that it leaves is sound, and read as the drain's end
   pub sound : (budget : ℕ) → Sound (drainOf b budget n .end)
-  pub reads : (budget : ℕ) → openOf (drainEndOf s t budget .state) ≡ opened 0 0 (drainOf b budget n .end)
+  pub reads : (budget : ℕ) → openOf (drainEndOf s t budget .state) ≡ opened 0 0 0 (drainOf b budget n .end)
   -- "whether nothing is pending"
   pub quiet-means : (budget : ℕ) → (drainEndOf s t budget .answer .quiet ≡ true) ↔ Quiet (drainOf b budget n .end)
   -- "At most 2,048 forwards [..] are ever needed": with such a budget it answers that nothing is pending

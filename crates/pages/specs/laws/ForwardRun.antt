@@ -24,7 +24,7 @@ use Rattle.engine.specs.declared.Tally.{Tally}
 use Rattle.engine.specs.declared.Begun.{Begun}
 use Rattle.engine.specs.Start.{beginOf}
 use Rattle.engine.specs.Run.{zeroTally, talliedOf, turnOf, Final, allDone, runFrom, runAll, written, Ending, runOf}
-use Rattle.engine.specs.Alone.{Forwards, noForward, forwardOn, forwardOf}
+use Rattle.engine.specs.Alone.{forwardedBy, Forwards, noForward, forwardOn, forwardOf}
 use Rattle.engine.specs.laws.ForwardAlone.{forwardEvent, forward-fits}
 
 -- an accepted event, alone in its list
@@ -54,12 +54,12 @@ forward-passed s t p m = go (eqb (g .number) 0) (ltb p 32 && ltb m 64) (eqb k 0)
 
     done : Forwards
     done = record {
-      answer = record { number = 0; place = 0; deliveries = deliveries (g .network) (g .table) (peer p) (message m) };
+      answer = forwardedBy 0 0 0 (deliveries (g .network) (g .table) (peer p) (message m));
       state = bytesOf (forwarded (g .network) (g .table) (peer p) (message m));
     }
 
     go : (x y z : Bool) → eqb (g .number) 0 ≡ x → (ltb p 32 && ltb m 64) ≡ y → eqb k 0 ≡ z
-        → (cond x (cond y (cond z done (noForward k 0 s)) (noForward 7 0 s)) (noForward (g .number) (g .place) s)) .answer .number ≡ 0 → Passed s t p m
+        → (cond x (cond y (cond z done (noForward k 0 0 s)) (noForward 7 0 0 s)) (noForward (g .number) (g .place) (g .detail) s)) .answer .number ≡ 0 → Passed s t p m
     go true true true ex ey ez h =
         let r = and-yes (ltb p 32) (ltb m 64) ey in
         record {

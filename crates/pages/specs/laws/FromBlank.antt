@@ -40,7 +40,7 @@ sound-from-blank ev h = run-keeps ev h blankTable blank-rows (length ev / 16) 0 
 -- from the bytes of a sound network: a drain with zero rows, and the image
 pub drain-with-blank : {n : Network} → Sound n → (budget : ℕ)
     → drainEndOf (bytesOf n) blankRows budget .answer
-    ≡ drained 0 0 (drainOf blankTable budget n .forwards) (drainOf blankTable budget n .rounds) (quietOf (drainOf blankTable budget n .end))
+    ≡ drained (drainOf blankTable budget n .forwards) (drainOf blankTable budget n .rounds) (quietOf (drainOf blankTable budget n .end))
 unfolding drainEndOf beginOf
 drain-with-blank {n} s budget = rw (bytes-long n, zero-rows, write-read s)
 

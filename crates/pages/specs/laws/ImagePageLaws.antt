@@ -46,7 +46,7 @@ shown : (m : Network) → image (imageNet m) ≡ image m
 unfolding imageNet
 shown m = image-written (image m)
 
-pub imaged : (s : List ℕ) {n : Network} → openOf s ≡ opened 0 0 n → Sound n → Imaged s n
+pub imaged : (s : List ℕ) {n : Network} → openOf s ≡ opened 0 0 0 n → Sound n → Imaged s n
 unfolding imageAnswerOf imagedOf
 imaged s {n} o sound =
     record {
@@ -59,7 +59,7 @@ imaged s {n} o sound =
     written : (buffer : List ℕ) → length buffer ≡ 5120 → imagedOf s buffer ≡ bytesOf (imageNet n)
     written buffer l = rw (o, l)
 
-    back : (buffer : List ℕ) → length buffer ≡ 5120 → openOf (imagedOf s buffer) ≡ opened 0 0 (imageNet n)
+    back : (buffer : List ℕ) → length buffer ≡ 5120 → openOf (imagedOf s buffer) ≡ opened 0 0 0 (imageNet n)
     back buffer l = ap openOf (written buffer l) ∙ write-read (imageNet-sound sound)
 
 -- ---- along a run
@@ -100,7 +100,7 @@ module _ (ev : List ℕ) (he : Bytes ev) (b : Table) (rows : Rows b) (n : Networ
               (one-step rows (reached ev b n i) (sound-at i) (x .0) (read-fits ev i (x .0) he (x .1)) (accepts i l (x .0) (x .1)));
         }
 
--- THE THEOREM: every outcome of `relay_run` past the refusals 1 to 5 meets the page.
+-- THE THEOREM: every outcome of `relay_run` past the refusals before any event meets the page.
 pub image-page : (s t ev : List ℕ) (old : Tally) → Bytes s → Bytes ev → beginOf s t (length ev) .number ≡ 0
     → (r : Answer) (s′ : List ℕ) (new : Tally) → Ends r s′ new (runOf s t ev old) → ImagePage s t ev r s′
 unfolding reached

@@ -32,7 +32,7 @@ use Rattle.engine.specs.declared.Tally.{Tally}
 use Rattle.engine.specs.declared.Begun.{Begun}
 use Rattle.engine.specs.Start.{beginOf}
 use Rattle.engine.specs.laws.StartFacts.{begin-by}
-use Rattle.engine.specs.Run.{zeroTally, turnOf, Final, runFrom, runAll, Ending, written, untouched, runOf}
+use Rattle.engine.specs.Run.{zeroTally, turnOf, answered, Final, runFrom, runAll, Ending, written, untouched, runOf}
 use Rattle.engine.specs.RunLaws.{outcomeAt, tallyAfter}
 use Rattle.engine.specs.laws.RunLaws.{run-on, run-stops}
 use Rattle.engine.specs.Alone.{forwardOn, forwardOf}
@@ -65,14 +65,14 @@ module _ (s t : List ℕ) (h : Bytes s) (z : beginOf s t 0 .number ≡ 0) where
             (k ∙ ap bytesOf (x .0) ∙ sym (page .leaves budget), x .1 ∙ sym (ap (λ (r : Drained). r .forwards) (page .answers budget)));
       }
     where
-      back : openOf e ≡ opened 0 0 (after b n l)
+      back : openOf e ≡ opened 0 0 0 (after b n l)
       back = ap openOf k ∙ write-read (begun-reach s t h .stays-sound l a)
 
 -- ---- a run over forward records
 
 -- the answer of a run that refuses nothing
 abbrev done : ℕ → Answer
-done count = record { number = 0; place = 0; accepted = count }
+done count = answered 0 0 0 count
 
 module _ (ev : List ℕ) (b : Table) where
   -- one forward: the number that it is answered with, and the network after it
@@ -166,11 +166,11 @@ module _ (s t ev : List ℕ) (old : Tally) (l : List Forward) (r : ForwardRecord
 
 -- what was read, where nothing was refused
 read-both : (s t : List ℕ) → beginOf s t 0 .number ≡ 0
-    → (length t ≡ 256) × (listOf t .number ≡ 0) × (openOf s .number ≡ 0) × (beginOf s t 0 ≡ record { number = 0; place = 0; network = openOf s .network; table = listOf t .table })
+    → (length t ≡ 256) × (listOf t .number ≡ 0) × (openOf s .number ≡ 0) × (beginOf s t 0 ≡ record { number = 0; place = 0; detail = 0; network = openOf s .network; table = listOf t .table })
 read-both s t =
     begin-by s t 0
-    (λ (g : Begun). g .number ≡ 0 → (length t ≡ 256) × (listOf t .number ≡ 0) × (openOf s .number ≡ 0) × (g ≡ record { number = 0; place = 0; network = openOf s .network; table = listOf t .table }))
-    (λ k p h z. absurd (h z))
+    (λ (g : Begun). g .number ≡ 0 → (length t ≡ 256) × (listOf t .number ≡ 0) × (openOf s .number ≡ 0) × (g ≡ record { number = 0; place = 0; detail = 0; network = openOf s .network; table = listOf t .table }))
+    (λ k p d h z. absurd (h z))
     λ a b c d z. (b, c, d, refl)
 
 -- an accepted forward, called alone
@@ -181,7 +181,7 @@ alone-passes s t p m z l k e = rw (z, lt-ltb (p .0) 32 l, lt-ltb (m .0) 64 k, e)
 
 module _ (t : List ℕ) (e : length t ≡ 256) (f : listOf t .number ≡ 0) where
   -- the bytes of a sound network are read as it
-  reads-back : {n : Network} → Sound n → beginOf (bytesOf n) t 0 ≡ record { number = 0; place = 0; network = n; table = listOf t .table }
+  reads-back : {n : Network} → Sound n → beginOf (bytesOf n) t 0 ≡ record { number = 0; place = 0; detail = 0; network = n; table = listOf t .table }
   unfolding beginOf
   reads-back {n} s = rw (bytes-long n, e, f, write-read s)
 

@@ -76,7 +76,7 @@ page-along s t ev hs he =
 page-refused : (s t ev : List ℕ) (old : Tally) → (beginOf s t (length ev) .number ≡ 0 → ⊥)
     → (let e = runOf s t ev old in RunRefused s t ev old (e .answer) (e .state) (e .tally))
 unfolding runOf
-page-refused s t ev old h = rw (ne-eqb h) (record { number = refl; place = refl; accepted = refl; state = refl; tally = refl })
+page-refused s t ev old h = rw (ne-eqb h) (record { number = refl; place = refl; detail = refl; accepted = refl; state = refl; tally = refl })
 
 module _ (s t ev : List ℕ) (old : Tally) (hs : Bytes s) (he : Bytes ev) (z : beginOf s t (length ev) .number ≡ 0) where
   b : Table
@@ -115,7 +115,7 @@ module _ (s t ev : List ℕ) (old : Tally) (hs : Bytes s) (he : Bytes ev) (z : b
   unfolding f
   along = run-along ev b n
 
-  back : openOf (bytesOf (f .network)) ≡ opened 0 0 (f .network)
+  back : openOf (bytesOf (f .network)) ≡ opened 0 0 0 (f .network)
   back = write-read (keeps .sound start)
 
   held : netIn (bytesOf (f .network)) ≡ f .network
@@ -143,13 +143,14 @@ module _ (s t ev : List ℕ) (old : Tally) (hs : Bytes s) (he : Bytes ev) (z : b
   unfolding f b n a
   page-done =
       record {
-        reads = back ∙ ap (opened 0 0) (sym held);
+        reads = back ∙ ap (opened 0 0 0) (sym held);
         sound = rw held (keeps .sound start);
         each = along .each;
         state = held ∙ along .network;
         within = omega (arith, ends .within);
         all = ((λ c. omega (arith, ends .all c .0)), λ e. ⊎-elim (eqb-true _ _) (λ c. absurd (omega (arith, ends .refused (eqb-false _ _ c) .0))) (either (eqb (f .answer .number) 0)));
         place = λ c. ends .all c .1;
+        detail = ends .detail;
         stops = λ c. (ends .refused c .1, omega (arith, ends .refused c .0), along .why c);
         before = alone;
         produced = omega (arith, counts .produced, kinds-all Kind.Produce);

@@ -15,6 +15,7 @@ use Rattle.engine.specs.laws.RunLaws.{run-on, run-ind}
 pub record Stops (ev : List ℕ) (b : Table) (k place : ℕ) (n : Network) (t : Tally) (f : Final) : Type 0 where
   pub began : place ≤ f .answer .accepted
   pub within : f .answer .accepted ≤ place + k
+  pub detail : f .answer .detail ≡ 0
   pub all : f .answer .number ≡ 0 → (f .answer .accepted ≡ place + k) × (f .answer .place ≡ 0)
   pub refused : (f .answer .number ≡ 0 → ⊥) → (f .answer .accepted < place + k) × (f .answer .place ≡ f .answer .accepted)
   pub before : runFrom (f .answer .accepted - place) ev place b n t ≡ allDone (f .answer .accepted) (f .tally) (f .network)
@@ -26,6 +27,7 @@ module _ (ev : List ℕ) (b : Table) where
       record {
         began = omega arith;
         within = omega arith;
+        detail = refl;
         all = λ e. (omega arith, refl);
         refused = λ f. absurd (f refl);
         before = rw (none place);
@@ -41,6 +43,7 @@ module _ (ev : List ℕ) (b : Table) where
       record {
         began = omega arith;
         within = omega arith;
+        detail = refl;
         all = λ e. absurd (f e);
         refused = λ _. (omega arith, refl);
         before = rw (none place);
@@ -55,6 +58,7 @@ module _ (ev : List ℕ) (b : Table) where
       record {
         began = omega (arith, ih .began);
         within = omega (arith, ih .within);
+        detail = ih .detail;
         all = λ z. (omega (arith, ih .all z .0), ih .all z .1);
         refused = λ z. (omega (arith, ih .refused z .0), ih .refused z .1);
         before = rw (one-more (f .answer .accepted) (ih .began)) (run-on (f .answer .accepted - (place + 1)) ev place b n t e ∙ ih .before);

@@ -1,4 +1,4 @@
--- The refusals 1 to 5 are exact: the proof of specs/StartPage.antt, and what is known past them. Assumes nothing.
+-- The refusals before any event are exact: the proof of specs/StartPage.antt, and what is known past them. Assumes nothing.
 use mathlib.Core.Path.{_≡_, refl, sym, ap, subst, _∙_}
 use mathlib.Core.Logic.{⊎-elim}
 use mathlib.Core.Bool.{not}
@@ -14,18 +14,17 @@ use Rattle.sets.specs.laws.Least.{lowestOf-lt-holds, lowestOf-least, lowestOf-i
 use Rattle.network.specs.declared.Opened.{Opened}
 use Rattle.network.specs.declared.Listed.{Listed}
 use Rattle.network.specs.Network.{peer}
-use Rattle.network.specs.Rules.{faulty, lowestBy}
-use Rattle.network.specs.State.{openOf, opened, faultAt, unsoundAt}
+use Rattle.network.specs.State.{openOf, opened}
 use Rattle.network.specs.Rows.{rowRight, badRow, listOf}
 use Rattle.network.specs.laws.OpenedSound.{accepted}
-use Rattle.network.specs.laws.Opening.{open-5, open-0}
 use Rattle.network.specs.Listing.{Right}
 use Rattle.network.specs.laws.Listing.{row-why, row-is, row-not, list-4, list-0}
 use Rattle.engine.specs.declared.Begun.{Begun}
 use Rattle.engine.specs.Start.{beginOf}
-use Rattle.engine.specs.laws.StartLaws.{begin-1, begin-2, begin-3, begin-4, begin-5, begin-0}
+use Rattle.engine.specs.Alone.{checkOf}
+use Rattle.engine.specs.laws.StartLaws.{begin-1, begin-2, begin-3, begin-4, begin-unsound, begin-0}
 use Rattle.engine.specs.laws.StartFacts.{begin-by}
-use Rattle.pages.specs.StartPage.{RowsRight, RecordsSound, Lengths, Starts, all-right, state-length, table-length, events-length, wrong-row, unsound-record, StartPage}
+use Rattle.pages.specs.StartPage.{RowsRight, Lengths, Starts, all-right, state-length, table-length, events-length, wrong-row, unsound, StartPage}
 
 -- ---- reading the table
 
@@ -60,109 +59,94 @@ module _ (t : List ℕ) (long : length t ≡ 256) where
       first (yes l) = subst (λ (x : Listed). P (x .number) (x .place)) (list-4 t (badRow t) long refl l) (g l)
       first (no l) = subst (λ (x : Listed). P (x .number) (x .place)) (list-0 t (badRow t) long refl (omega arith) refl) (f λ r c. right-below r (omega arith))
 
--- ---- reading the state
-
-module _ (s : List ℕ) (long : length s ≡ 5120) where
-  sound-below : (p : ℕ) → p < unsoundAt s → faultAt s (peer p) ≡ 0
-  unfolding lowestBy faulty
-  sound-below p l = eqb-true _ _ (not-no _ (lowestOf-least 32 (λ (q : ℕ). not (eqb (faultAt s (peer q)) 0)) p l))
-
-  unsound-there : unsoundAt s < 32 → faultAt s (peer (unsoundAt s)) ≡ 0 → ⊥
-  unfolding lowestBy faulty
-  unsound-there l = eqb-false _ _ (not-yes _ (lowestOf-lt-holds 32 (λ (q : ℕ). not (eqb (faultAt s (peer q)) 0)) l))
-
-  state-sound : RecordsSound s → openOf s .number ≡ 0
-  unfolding lowestBy faulty
-  state-sound h =
-      let e : unsoundAt s ≡ 32 = lowestOf-none 32 _ λ p l. ap not (eq-eqb _ _ (h p l)) in
-      ap (λ (o : Opened). o .number) (sym (open-0 s (unsoundAt s) long refl (omega arith) refl))
-
-  state-unsound : (p : ℕ) → p < 32 → (faultAt s (peer p) ≡ 0 → ⊥) → ((i : ℕ) → i < p → faultAt s (peer i) ≡ 0) → (openOf s .number ≡ 5) × (openOf s .place ≡ p)
-  unfolding lowestBy faulty
-  state-unsound p l h k =
-      let e : unsoundAt s ≡ p = lowestOf-is 32 _ p l (ap not (ne-eqb h)) λ i c. ap not (eq-eqb _ _ (k i c)) in
-      let f = open-5 s p long (sym e) l in
-      (ap (λ (x : Opened). x .number) (sym f), ap (λ (x : Opened). x .place) (sym f))
-
-  state-either : (P : ℕ → ℕ → Type 0) → (RecordsSound s → P 0 0) → (unsoundAt s < 32 → P 5 (unsoundAt s)) → P (openOf s .number) (openOf s .place)
-  state-either P f g = first (decLt (unsoundAt s) 32)
-    where
-      first : Dec (unsoundAt s < 32) → P (openOf s .number) (openOf s .place)
-      first (yes l) = subst (λ (x : Opened). P (x .number) (x .place)) (open-5 s (unsoundAt s) long refl l) (g l)
-      first (no l) = subst (λ (x : Opened). P (x .number) (x .place)) (open-0 s (unsoundAt s) long refl (omega arith) refl) (f λ p c. sound-below p (omega arith))
-
 -- ---- all together
 
 module _ (s t : List ℕ) (events : ℕ) where
   -- what an entry point begins with is one of the page's ways
-  starts : Starts s t events (beginOf s t events .number) (beginOf s t events .place)
-  starts = ⊎-elim (λ a. two (eqb-true _ _ a)) (λ a. by (begin-1 s t events (eqb-false _ _ a)) (state-length (eqb-false _ _ a))) (either (eqb (length s) 5120))
-    where
-      by : {g : Begun} → g ≡ beginOf s t events → Starts s t events (g .number) (g .place) → Starts s t events (beginOf s t events .number) (beginOf s t events .place)
-      by e h = subst (λ (x : Begun). Starts s t events (x .number) (x .place)) e h
+  abbrev Begins : Begun → Type 0
+  Begins g = Starts s t events (g .number) (g .place) (g .detail)
 
-      rows : (l : Lengths s t events) → Starts s t events (beginOf s t events .number) (beginOf s t events .place)
-      rows l =
-          table-either t (l .table) (λ number place. listOf t .number ≡ number → listOf t .place ≡ place → Starts s t events (beginOf s t events .number) (beginOf s t events .place))
-          (λ right a _.
-          state-either s (l .state) (λ number place. openOf s .number ≡ number → openOf s .place ≡ place → Starts s t events (beginOf s t events .number) (beginOf s t events .place))
-          (λ sound c _. by (begin-0 s t events (l .state) (l .table) (l .records) refl a refl c) (all-right l right sound))
-          (λ b c d. by (begin-5 s t events (l .state) (l .table) (l .records) refl a refl (λ z. omega arith)) (rw (c, d) (unsound-record l right (unsoundAt s) b (unsound-there s (l .state) b) (sound-below s (l .state)))))
-          refl refl)
-          (λ b c d. by (begin-4 s t events (l .state) (l .table) (l .records) refl (λ z. omega arith)) (rw (c, d) (wrong-row l (badRow t) b (wrong-there t (l .table) b) (right-below t (l .table)))))
-          refl refl
+  by : {g : Begun} → g ≡ beginOf s t events → Begins g → Begins (beginOf s t events)
+  by e h = subst Begins e h
 
-      three : length s ≡ 5120 → length t ≡ 256 → Starts s t events (beginOf s t events .number) (beginOf s t events .place)
-      three a b =
-          ⊎-elim (λ c. rows (record { state = a; table = b; records = eqb-true _ _ c })) (λ c. by (begin-3 s t events a b (eqb-false _ _ c)) (events-length a b (eqb-false _ _ c)))
-          (either (eqb (events % 16) 0))
+  -- the lengths and the rows are right: the state decides
+  begins-state : Lengths s t events → RowsRight t → Begins (beginOf s t events)
+  unfolding checkOf
+  begins-state l right =
+      let a = table-right t (l .table) right in
+      ⊎-elim
+      (λ c. by (begin-0 s t events (l .state) (l .table) (l .records) refl a refl (eqb-true _ _ c)) (all-right l right (eqb-true _ _ c)))
+      (λ c. by (begin-unsound s t events (l .state) (l .table) (l .records) refl a refl (eqb-false _ _ c)) (unsound l right (eqb-false _ _ c)))
+      (either (eqb (openOf s .number) 0))
 
-      two : length s ≡ 5120 → Starts s t events (beginOf s t events .number) (beginOf s t events .place)
-      two a = ⊎-elim (λ b. three a (eqb-true _ _ b)) (λ b. by (begin-2 s t events a (eqb-false _ _ b)) (table-length a (eqb-false _ _ b))) (either (eqb (length t) 256))
+  begins-rows : Lengths s t events → Begins (beginOf s t events)
+  begins-rows l =
+      table-either t (l .table) (λ number place. listOf t .number ≡ number → listOf t .place ≡ place → Begins (beginOf s t events))
+      (λ right c d. begins-state l right)
+      (λ b c d. by (begin-4 s t events (l .state) (l .table) (l .records) refl (λ z. omega (arith, c))) (rw (c, d) (wrong-row l (badRow t) b (wrong-there t (l .table) b) (right-below t (l .table)))))
+      refl refl
 
-  -- both parts of an equation of what is begun
-  said : {g : Begun} → g ≡ beginOf s t events → (beginOf s t events .number ≡ g .number) × (beginOf s t events .place ≡ g .place)
-  said e = (ap (λ (x : Begun). x .number) (sym e), ap (λ (x : Begun). x .place) (sym e))
+  begins-lengths : length s ≡ 5120 → length t ≡ 256 → Begins (beginOf s t events)
+  begins-lengths a b =
+      ⊎-elim (λ c. begins-rows (record { state = a; table = b; records = eqb-true _ _ c })) (λ c. by (begin-3 s t events a b (eqb-false _ _ c)) (events-length a b (eqb-false _ _ c)))
+      (either (eqb (events % 16) 0))
 
-  -- and each way leads to its number and place
-  begins : {number place : ℕ} → Starts s t events number place → (beginOf s t events .number ≡ number) × (beginOf s t events .place ≡ place)
+  starts : Begins (beginOf s t events)
+  starts =
+      ⊎-elim
+      (λ a. ⊎-elim (λ b. begins-lengths (eqb-true _ _ a) (eqb-true _ _ b)) (λ b. by (begin-2 s t events (eqb-true _ _ a) (eqb-false _ _ b)) (table-length (eqb-true _ _ a) (eqb-false _ _ b))) (either (eqb (length t) 256)))
+      (λ a. by (begin-1 s t events (eqb-false _ _ a)) (state-length (eqb-false _ _ a)))
+      (either (eqb (length s) 5120))
+
+  -- the parts of an equation of what is begun
+  abbrev Said : ℕ → ℕ → ℕ → Type 0
+  Said number place detail = (beginOf s t events .number ≡ number) × (beginOf s t events .place ≡ place) × (beginOf s t events .detail ≡ detail)
+
+  said : {g : Begun} → g ≡ beginOf s t events → Said (g .number) (g .place) (g .detail)
+  said e = (ap (λ (x : Begun). x .number) (sym e), ap (λ (x : Begun). x .place) (sym e), ap (λ (x : Begun). x .detail) (sym e))
+
+  -- and each way leads to its number, place and detail
+  begins : {number place detail : ℕ} → Starts s t events number place detail → Said number place detail
+  unfolding checkOf
   begins (all-right l right sound) =
-      said (begin-0 s t events (l .state) (l .table) (l .records) refl (table-right t (l .table) right) refl (state-sound s (l .state) sound))
+      said (begin-0 s t events (l .state) (l .table) (l .records) refl (table-right t (l .table) right) refl sound)
   begins (state-length h) = said (begin-1 s t events h)
   begins (table-length a h) = said (begin-2 s t events a h)
   begins (events-length a b h) = said (begin-3 s t events a b h)
   begins (wrong-row l r b h k) =
       let x = table-wrong t (l .table) r b h k in
       let y = said (begin-4 s t events (l .state) (l .table) (l .records) refl (λ z. omega (arith, x .0))) in
-      (y .0 ∙ x .0, y .1 ∙ x .1)
-  begins (unsound-record l right p b h k) =
-      let x = state-unsound s (l .state) p b h k in
-      let y = said (begin-5 s t events (l .state) (l .table) (l .records) refl (table-right t (l .table) right) refl (λ z. omega (arith, x .0))) in
-      (y .0 ∙ x .0, y .1 ∙ x .1)
+      (y .0 ∙ x .0, y .1 ∙ x .1, y .2)
+  begins (unsound l right h) = said (begin-unsound s t events (l .state) (l .table) (l .records) refl (table-right t (l .table) right) refl h)
 
-  -- THE THEOREM: the refusals 1 to 5 are exact, for all bytes.
+  -- THE THEOREM: the refusals before any event are exact, for all bytes.
   pub start-page : StartPage s t events
-  start-page number place = ((λ e. rw (e .0, e .1) at starts), begins)
+  start-page number place detail = ((λ e. rw (e .0, e .1, e .2) at starts), begins)
 
   -- past them: the lengths are right, and the network and the table are those that the bytes say
   pub begin-lengths : beginOf s t events .number ≡ 0 → Lengths s t events
-  begin-lengths z = first (rw z at starts)
+  begin-lengths = first starts
     where
-      first : {place : ℕ} → Starts s t events 0 place → Lengths s t events
-      first (all-right l right sound) = l
+      first : {number place detail : ℕ} → Starts s t events number place detail → number ≡ 0 → Lengths s t events
+      first (all-right l right sound) z = l
+      first (state-length h) z = absurd (omega arith)
+      first (table-length a h) z = absurd (omega arith)
+      first (events-length a b h) z = absurd (omega arith)
+      first (wrong-row l r b h k) z = l
+      first (unsound l right h) z = l
 
   pub begin-read : beginOf s t events .number ≡ 0 → (beginOf s t events .network ≡ openOf s .network) × (beginOf s t events .table ≡ listOf t .table)
   begin-read =
       begin-by s t events (λ (g : Begun). g .number ≡ 0 → (g .network ≡ openOf s .network) × (g .table ≡ listOf t .table))
-      (λ k p h z. absurd (h z))
+      (λ k p d h z. absurd (h z))
       λ a b c d z. (refl, refl)
 
   -- the state is one that a reading accepts
-  pub begin-opens : beginOf s t events .number ≡ 0 → openOf s ≡ opened 0 0 (openOf s .network)
+  pub begin-opens : beginOf s t events .number ≡ 0 → openOf s ≡ opened 0 0 0 (openOf s .network)
   begin-opens =
-      begin-by s t events (λ (g : Begun). g .number ≡ 0 → openOf s ≡ opened 0 0 (openOf s .network))
-      (λ k p h z. absurd (h z))
-      λ a b c d z. let o = accepted s d .is in o ∙ ap (λ (x : Opened). opened 0 0 (x .network)) (sym o)
+      begin-by s t events (λ (g : Begun). g .number ≡ 0 → openOf s ≡ opened 0 0 0 (openOf s .network))
+      (λ k p d h z. absurd (h z))
+      λ a b c d z. let o = accepted s d .is in o ∙ ap (λ (x : Opened). opened 0 0 0 (x .network)) (sym o)
 
 -- of the events only whether they are whole records matters
 pub begin-same : (s t : List ℕ) (a b : ℕ) → a % 16 ≡ 0 → b % 16 ≡ 0 → beginOf s t a ≡ beginOf s t b

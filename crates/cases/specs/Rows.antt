@@ -11,7 +11,7 @@ use Rattle.network.specs.State.{openOf}
 use Rattle.events.specs.declared.Fields.{Fields}
 use Rattle.events.specs.Writing.{fieldsMk, putFields}
 use Rattle.engine.specs.declared.Tally.{Tally}
-use Rattle.engine.specs.Run.{Ending, runOf}
+use Rattle.engine.specs.Run.{answered, Ending, runOf}
 use Rattle.engine.specs.Draining.{drained, drainEndOf}
 use Rattle.engine.specs.Imaging.{imagedOf}
 use Rattle.pages.specs.FromBlank.{blankState, blankRows}
@@ -51,13 +51,13 @@ pub data Row : Type 0 where
 abbrev pub ran : List Fields → Tally → Ending
 ran l old = runOf blankState blankRows (bytes l) old
 
--- what a row says: the run's number, place and accepted count; the same image after two lists, in a buffer of 5,120 bytes; a peer's neighbours
+-- what a row says: the run's number, place and accepted count, without a detail; the same image after two lists, in a buffer of 5,120 bytes; a peer's neighbours
 -- in the state after a list; the answer of the drain after a list, with a budget: done, forwards, rounds, quiet
 unfoldable pub Holds : Row → Type 0
-Holds (answers l number place accepted) = (old : Tally) → ran l old .answer ≡ record { number = number; place = place; accepted = accepted }
+Holds (answers l number place accepted) = (old : Tally) → ran l old .answer ≡ answered number place 0 accepted
 Holds (image-as l r) = (old : Tally) (image : List ℕ) → length image ≡ 5120 → imagedOf (ran l old .state) image ≡ imagedOf (ran r old .state) image
 Holds (neighbours l p who) = (old : Tally) → neighboursOf (openOf (ran l old .state) .network) (peer p) ≡ who
-Holds (drains l budget forwards rounds quiet) = (old : Tally) → drainEndOf (ran l old .state) blankRows budget .answer ≡ drained 0 0 forwards rounds quiet
+Holds (drains l budget forwards rounds quiet) = (old : Tally) → drainEndOf (ran l old .state) blankRows budget .answer ≡ drained forwards rounds quiet
 
 -- every row of a list
 unfoldable pub Each : List Row → Type 0

@@ -44,7 +44,7 @@ alike false b = not b
 
 -- an answer, two images, and a drain's answer, beside what they should be
 unfoldable pub answer-is : Answer → ℕ → ℕ → ℕ → Bool
-answer-is a number place accepted = eqb (a .number) number && (eqb (a .place) place && eqb (a .accepted) accepted)
+answer-is a number place accepted = eqb (a .number) number && (eqb (a .place) place && (eqb (a .detail) 0 && eqb (a .accepted) accepted))
 
 unfoldable pub images-are : Broadcastnet → Broadcastnet → Bool
 images-are s u = eqb (s .present) (u .present) && (same (s .pubs) (u .pubs) && (same (s .subs) (u .subs) && same (s .seen) (u .seen)))

@@ -23,7 +23,7 @@ use Rattle.broadcastnet.specs.Commit.{image, asNetwork, imageNet}
 use Rattle.drain.specs.Drain.{drainOf, quietOf}
 use Rattle.engine.specs.declared.Tally.{Tally}
 use Rattle.engine.specs.declared.Answer.{Answer}
-use Rattle.engine.specs.Run.{Ending, written}
+use Rattle.engine.specs.Run.{answered, Ending, written}
 use Rattle.engine.specs.Draining.{drained, drainEndOf}
 use Rattle.engine.specs.Imaging.{imagedOf}
 use Rattle.pages.specs.FromBlank.{blankRows}
@@ -55,15 +55,17 @@ alike-same true false h = clash h refl
 alike-same false true h = clash h refl
 alike-same false false h = refl
 
-answer-path : (a : Answer) (number place accepted : ℕ) → answer-is a number place accepted ≡ true → a ≡ record { number = number; place = place; accepted = accepted }
+answer-path : (a : Answer) (number place accepted : ℕ) → answer-is a number place accepted ≡ true → a ≡ answered number place 0 accepted
 unfolding answer-is
 answer-path a number place accepted h =
     let x = and-yes (eqb (a .number) number) _ h in
-    let y = and-yes (eqb (a .place) place) (eqb (a .accepted) accepted) (x .1) in
+    let y = and-yes (eqb (a .place) place) _ (x .1) in
+    let z = and-yes (eqb (a .detail) 0) (eqb (a .accepted) accepted) (y .1) in
     let e : a .number ≡ number = eqb-true _ _ (x .0) in
     let f : a .place ≡ place = eqb-true _ _ (y .0) in
-    let g : a .accepted ≡ accepted = eqb-true _ _ (y .1) in
-    λ i. record { number = e i; place = f i; accepted = g i }
+    let k : a .detail ≡ 0 = eqb-true _ _ (z .0) in
+    let g : a .accepted ≡ accepted = eqb-true _ _ (z .1) in
+    λ i. answered (e i) (f i) (k i) (g i)
 
 image-path : (s u : Broadcastnet) → images-are s u ≡ true → s ≡ u
 unfolding images-are
@@ -78,7 +80,7 @@ image-path s u h =
     λ i. record { present = e i; pubs = f i; subs = g i; seen = k i }
 
 drained-path : (d : Drained Network) (forwards rounds : ℕ) (quiet : Bool) → drained-is d forwards rounds quiet ≡ true
-    → drained 0 0 (d .forwards) (d .rounds) (quietOf (d .end)) ≡ drained 0 0 forwards rounds quiet
+    → drained (d .forwards) (d .rounds) (quietOf (d .end)) ≡ drained forwards rounds quiet
 unfolding drained-is
 drained-path d forwards rounds quiet h =
     let x = and-yes (eqb (d .forwards) forwards) _ h in
@@ -86,7 +88,7 @@ drained-path d forwards rounds quiet h =
     let e : d .forwards ≡ forwards = eqb-true _ _ (x .0) in
     let f : d .rounds ≡ rounds = eqb-true _ _ (y .0) in
     let g : quietOf (d .end) ≡ quiet = alike-same _ _ (y .1) in
-    λ i. drained 0 0 (e i) (f i) (g i)
+    λ i. drained (e i) (f i) (g i)
 
 -- a run from zero bytes
 module _ (l : List Fields) (h : proper l ≡ true) where

@@ -8,12 +8,11 @@ use native.Mathlib.Omega.{arith}
 use native.Mathlib.Decide.{decLt}
 use lib.Dec.{eqb}
 use lib.ListN.{length}
-use borrow.Author.Tests.{eqb-true, eqb-false, eq-eqb}
-use Rattle.sets.specs.laws.Bools.{either, clash, ne-eqb, not-yes, not-no}
+use borrow.Author.Tests.{eqb-true, eqb-false}
+use Rattle.sets.specs.laws.Bools.{either, clash, not-yes, not-no}
 use Rattle.sets.specs.laws.Least.{lowestOf-lt-holds, lowestOf-least, lowestOf-is, lowestOf-none}
 use Rattle.network.specs.declared.Opened.{Opened}
 use Rattle.network.specs.declared.Listed.{Listed}
-use Rattle.network.specs.Network.{peer}
 use Rattle.network.specs.State.{openOf, opened}
 use Rattle.network.specs.Rows.{rowRight, badRow, listOf}
 use Rattle.network.specs.laws.OpenedSound.{accepted}

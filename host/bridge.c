@@ -5,7 +5,7 @@
  *
  *   call   0 function; 1 peer; 2 message; 4-7 budget; 8-31 lengths of three buffers, 8 bytes each; 32-55 tally;
  *          56-63 zero; then the buffers
- *   answer 0 number; 1 quiet; 8-15 place; 16-23 accepted; 24-27 deliveries or forwards; 28-31 rounds; 32-55 tally;
+ *   answer 0 number; 1 detail; 2 quiet; 8-15 place; 16-23 accepted; 24-27 deliveries or forwards; 28-31 rounds; 32-55 tally;
  *          the rest zero; then the buffers
  */
 #include "relay.h"
@@ -24,7 +24,7 @@ struct call {
 };
 
 /* Ends the process: the host sees the end of its input and says so. */
-static void stop(const char *why)
+static _Noreturn void stop(const char *why)
 {
     fprintf(stderr, "engine process: %s\n", why);
     exit(1);
@@ -49,16 +49,37 @@ static bool read_call(struct call *call)
     return true;
 }
 
-/* Puts the parts of an answer where the host looks for them. */
-static void put(uint8_t *head, uint8_t number, uint64_t place, uint64_t accepted, uint32_t count, uint32_t rounds,
-                bool quiet)
+/* Puts what every answer has where the host looks for it. */
+static void put(uint8_t *head, uint8_t number, uint8_t detail, uint64_t place)
 {
     head[0] = number;
-    head[1] = quiet;
+    head[1] = detail;
     memcpy(head + 8, &place, 8);
-    memcpy(head + 16, &accepted, 8);
+}
+
+/* The same for what a drain counts; the deliveries of a forward stand where its forwards do. */
+static void put_counts(uint8_t *head, uint32_t count, uint32_t rounds, bool quiet)
+{
+    head[2] = quiet;
     memcpy(head + 24, &count, 4);
     memcpy(head + 28, &rounds, 4);
+}
+
+/* Calls one of the functions that answer no more than number, detail and place. */
+static relay_checked checked(const struct call *call)
+{
+    uint8_t *const *buffer = call->buffer;
+    const uint64_t *length = call->length;
+    switch (call->head[0]) {
+    case IMAGE:
+        return relay_image(buffer[0], length[0], buffer[1], length[1]);
+    case CHECK:
+        return relay_check(buffer[0], length[0]);
+    case COPY:
+        return relay_copy(buffer[0], length[0], buffer[1], length[1]);
+    default:
+        stop("an unknown function is called");
+    }
 }
 
 /* Calls the engine and leaves the answer's head in `head`. */
@@ -74,36 +95,27 @@ static void answer(const struct call *call, uint8_t head[HEAD])
     switch (call->head[0]) {
     case RUN: {
         relay_answer a = relay_run(buffer[0], length[0], buffer[1], length[1], buffer[2], length[2], &tally);
-        put(head, a.number, a.place, a.accepted, 0, 0, false);
+        uint64_t accepted = a.accepted;
+        put(head, a.number, a.detail, a.place);
+        memcpy(head + 16, &accepted, 8);
         break;
     }
     case FORWARD: {
         relay_forwarded f = relay_forward(buffer[0], length[0], buffer[1], length[1], call->head[1], call->head[2]);
-        put(head, f.number, f.place, 0, f.deliveries, 0, false);
+        put(head, f.number, f.detail, f.place);
+        put_counts(head, f.deliveries, 0, false);
         break;
     }
     case DRAIN: {
         relay_drained d = relay_drain(buffer[0], length[0], buffer[1], length[1], budget);
-        put(head, d.number, d.place, 0, d.forwards, d.rounds, d.quiet);
+        put(head, d.number, d.detail, d.place);
+        put_counts(head, d.forwards, d.rounds, d.quiet);
         break;
     }
-    case IMAGE: {
-        relay_checked c = relay_image(buffer[0], length[0], buffer[1], length[1]);
-        put(head, c.number, c.place, 0, 0, 0, false);
-        break;
+    default: {
+        relay_checked c = checked(call);
+        put(head, c.number, c.detail, c.place);
     }
-    case CHECK: {
-        relay_checked c = relay_check(buffer[0], length[0]);
-        put(head, c.number, c.place, 0, 0, 0, false);
-        break;
-    }
-    case COPY: {
-        relay_checked c = relay_copy(buffer[0], length[0], buffer[1], length[1]);
-        put(head, c.number, c.place, 0, 0, 0, false);
-        break;
-    }
-    default:
-        stop("an unknown function is called");
     }
     memcpy(head + TALLY, &tally, sizeof tally);
 }

@@ -78,12 +78,13 @@ int main(void)
            drained.quiet ? "yes" : "no");
     print_seen("state:", state);
 
-    /* Bad bytes are refused by number: one bit of record 1 is flipped, so that it lists itself as a neighbour. */
+    /* Bad bytes are refused by number, with the record at fault and what is wrong in it: record 1 is made to know desk 2 as a
+     * subscriber of topic 7, which it isn't. */
     relay_checked copied = relay_copy(state, sizeof state, image, sizeof image);
-    image[1 * RELAY_PEER_BYTES + 12] ^= (uint8_t)only(1);
+    put32(image + 1 * RELAY_PEER_BYTES + 32 + 4 * 7, only(2));
     relay_checked damaged = relay_check(image, sizeof image);
     relay_checked cut = relay_check(image, sizeof image - 1);
-    printf("copy: number %d; a damaged copy: number %d, place %zu; one byte short: number %d\n", copied.number,
-           damaged.number, damaged.place, cut.number);
+    printf("copy: number %d; one byte short: number %d\n", copied.number, cut.number);
+    printf("a damaged copy: number %d, place %zu, detail %d\n", damaged.number, damaged.place, damaged.detail);
     return 0;
 }

@@ -18,7 +18,6 @@
  *    2 message table isn't 256 bytes
  *    3 event bytes aren't a multiple of 16
  *    4 a message row has topic or origin above 31, or bytes 2-3 not zero    (place: lowest such row)
- *    5 state unsound                                                        (place: lowest unsound record)
  *    6 unknown code                                                         (place of this and the next ten: the event)
  *    7 peer above 31, message above 63, or an unused byte not zero
  *    8 peer absent
@@ -31,6 +30,16 @@
  *   15 joining peer names itself as neighbour
  *   16 a named neighbour is absent
  *   18 image buffer isn't 5,120 bytes
+ *   20 presence byte or zero bytes                                         (place of this and the next six: lowest unsound record)
+ *   21 absent record not empty
+ *   22 own neighbour
+ *   23 neighbour absent                                                    (detail: lowest neighbour whose byte 0 isn't 1)
+ *   24 neighbour doesn't list back                                         (detail: lowest neighbour that doesn't)
+ *   25 known subscribers wrong                                             (detail: lowest topic whose word is wrong)
+ *   26 pending also seen
+ *
+ * 20 to 26 say that the state is unsound, and by which rule: the record is the lowest at fault, the number its lowest rule. The
+ * detail is 0 where none is given. 5 is no longer answered (it was 20 to 26 in one), and 17 only by the run program.
  */
 #ifndef RELAY_H
 #define RELAY_H
@@ -79,20 +88,24 @@ typedef struct relay_tally {
     uint64_t deliveries;
 } relay_tally;
 
+/* Every answer begins with number, detail and place; `detail` is the neighbour or topic at fault of 23 to 25, otherwise 0. */
 typedef struct relay_answer {
     uint8_t number;
+    uint8_t detail;
     size_t place;
     size_t accepted; /* the count of accepted events */
 } relay_answer;
 
 typedef struct relay_forwarded {
     uint8_t number;
+    uint8_t detail;
     size_t place;
     uint32_t deliveries; /* peers that newly hold the message; 0 if refused */
 } relay_forwarded;
 
 typedef struct relay_drained {
     uint8_t number;
+    uint8_t detail;
     size_t place;
     uint32_t forwards; /* forwards made */
     uint32_t rounds;   /* rounds finished */
@@ -101,38 +114,39 @@ typedef struct relay_drained {
 
 typedef struct relay_checked {
     uint8_t number;
+    uint8_t detail;
     size_t place;
 } relay_checked;
 
-/* Runs an event list on a state. 1 to 5 are tested in that order before any event; then the accepted count is 0 and all
- * buffers, the tally included, stay untouched. Then events from place 0, each tested 6, 7, then its conditions. At the
- * first refusal the run stops; the state buffer holds the state after the accepted events. The tally starts from zero
- * in each run that gets past 5. Table and events are never written. */
+/* Runs an event list on a state. 1 to 4, then 20 to 26, are tested in that order before any event; refused by one of them, the
+ * accepted count is 0 and all buffers, the tally included, stay untouched. Then events from place 0, each tested 6, 7, then its
+ * conditions. At the first refusal the run stops; the state buffer holds the state after the accepted events. The tally starts
+ * from zero in each run that gets past 26. Table and events are never written. */
 relay_answer relay_run(uint8_t *state, size_t state_length, const uint8_t *table, size_t table_length,
                        const uint8_t *events, size_t events_length, relay_tally *tally);
 
 /* Forwards one message: it moves from pending to seen at the peer; then each known subscriber of its topic there gets
- * it pending, unless it is pending or seen there. Refuses by 1, 2, 4, 5, 7, 8, 13 in this order, place 0 for the last
- * three, buffers untouched. */
+ * it pending, unless it is pending or seen there. Refuses by 1, 2, 4, 20 to 26, 7, 8, 13 in this order, place 0 for the
+ * last three, buffers untouched. */
 relay_forwarded relay_forward(uint8_t *state, size_t state_length, const uint8_t *table, size_t table_length,
                               uint8_t peer, uint8_t message);
 
 /* Forwards by rounds. A round forwards every pair that was pending when the round began, peers rising, messages rising
  * within a peer; what becomes pending meanwhile waits. Stops when nothing is pending or the budget is spent. Refuses by
- * 1, 2, 4, 5 with counts 0, not quiet, buffers untouched. */
+ * 1, 2, 4, 20 to 26 in this order with counts 0, not quiet, buffers untouched. */
 relay_drained relay_drain(uint8_t *state, size_t state_length, const uint8_t *table, size_t table_length,
                           uint32_t budget);
 
 /* Writes the commitment image: it keeps presence, pubs and subs, and from every seen set removes each message pending
- * at any peer; neighbours, pending and known subscribers are zero. Refuses by 1, 5, 18 in that order and leaves both
- * buffers untouched; the state is never written. */
+ * at any peer; neighbours, pending and known subscribers are zero. Refuses by 1, 20 to 26, 18 in that order and leaves
+ * both buffers untouched; the state is never written. */
 relay_checked relay_image(const uint8_t *state, size_t state_length, uint8_t *image, size_t image_length);
 
-/* Is this a sound state? Refuses by 1, then 5. */
+/* Is this a sound state? Refuses by 1, then 20 to 26. */
 relay_checked relay_check(const uint8_t *state, size_t state_length);
 
-/* Reads a state from one buffer and writes it to another. Refuses by 1, then 5, for the buffer that is read; then by 1
- * for the buffer that is written. A refusal leaves both untouched. */
+/* Reads a state from one buffer and writes it to another. Refuses by 1, then 20 to 26, for the buffer that is read; then
+ * by 1 for the buffer that is written. A refusal leaves both untouched. */
 relay_checked relay_copy(const uint8_t *from, size_t from_length, uint8_t *to, size_t to_length);
 
 #ifdef __cplusplus

@@ -71,8 +71,24 @@ cat >"$room/explained" <<'TEXT'
 The place is the event. What to do: forward what is pending there, or drain, and let it leave then.
 TEXT
 gives 0 "$room/explained" "$relay" explain 14
-echo 'there is no number "20" to explain: numbers are 0 to 18 (docs/RULES.md, 6)' >"$room/explained"
-gives 2 "$room/explained" "$relay" explain 20
+echo 'there is no number "19" to explain: they are 0, 1 to 4, 6 to 18 and 20 to 26 (docs/RULES.md, 6)' >"$room/explained"
+gives 2 "$room/explained" "$relay" explain 19
+"$relay" explain 5 >"$room/wrote" && grep -q '^5: no longer answered$' "$room/wrote" && grep -q '20 to 26' "$room/wrote"
+verdict $? "explain 5 says what took its place"
+
+# What is wrong with a state: the refusal as a script would get it, then what `explain` says of the number.
+explained() { # NUMBER FIRST-LINE
+    { echo "$2"; "$relay" explain "$1" | sed 1d; } >"$room/explained"
+}
+explained 25 "$(sed 's/^[^ ]* //' examples/accident.out)"
+[ "$(wc -l <"$room/explained")" -gt 1 ] && grep -q 'What to do: ' "$room/explained"
+verdict $? "explain 25 says what to do"
+gives 1 "$room/explained" "$relay" explain examples/accident.state
+head -c 5000 examples/accident.state >"$room/short"
+explained 1 "$room/short is refused: state isn't 5,120 bytes (1): found 5000"
+gives 1 "$room/explained" "$relay" explain "$room/short"
+echo "$room/none can't be read: No such file or directory (os error 2)" >"$room/explained"
+gives 2 "$room/explained" "$relay" explain "$room/none"
 
 # Text to records and back, and a state through files.
 examples=$PWD/examples docs=$PWD/docs
@@ -98,6 +114,33 @@ printf 'join 0 pubs 0\nproduce 0 5\nforward 0 5\ntable 5 topic 1 origin 0\n' >lo
 gives 2 want "$relay" encode lost.relay lost.records
 says 2 "standard input:6: the events can't be written: a message that they name has got another row since" \
     'join 0 pubs 0\nproduce 0 5\nforward 0 5\nleave 0\ntable 5 topic 1 origin 0\nevents lost.records\n'
+
+# A sound state is said to be; each rule that a state can break has its number, place and detail, and words for what is found.
+echo "state is sound: 2 peers present, 1 pair pending" >want
+gives 0 want "$relay" explain state
+unsound() { # NUMBER WORDS RECORD BYTE OCTAL [RECORD BYTE OCTAL]
+    local number=$1 words=$2 bad="bad$1"
+    shift 2
+    cp state "$bad"
+    while [ $# -gt 0 ]; do
+        # shellcheck disable=SC2059
+        printf "\\$3" | dd of="$bad" bs=1 seek=$((160 * $1 + $2)) conv=notrunc status=none
+        shift 3
+    done
+    says 1 "standard input:1: $bad is refused: $words" "load $bad\n"
+    explained "$number" "$bad is refused: $words"
+    gives 1 "$room/explained" "$relay" explain "$bad"
+}
+unsound 20 "presence byte or zero bytes (20, record 9): byte 0 is 2, expected 0 or 1" 9 0 2
+unsound 21 "absent record not empty (21, record 31): desk 31 is absent (byte 0 is 0), yet it has subs 1; expected nothing" 31 8 2
+unsound 22 "own neighbour (22, record 1): desk 1 lists itself (found neighbours 0,1, expected 0)" 1 12 3
+unsound 23 "neighbour absent (23, record 0, neighbour 1): lists desk 1, which is absent (its byte 0 is 2, expected 1)" 1 0 2
+unsound 24 "neighbour doesn't list back (24, record 0, neighbour 1): \
+lists desk 1, which doesn't list desk 0 (its neighbours are none, expected 0 among them)" 1 12 0
+unsound 25 "known subscribers wrong (25, record 1, topic 31): misses desk 0, a neighbour that subscribes (found none, expected 0)" \
+    1 159 0 1 156 0
+unsound 26 "pending also seen (26, record 0): message 5 is both pending and seen (found pending 5, seen 5; expected none in both)" \
+    0 16 40 9 0 2
 
 # Text that can't be read is named; a mark before the text, capitals and another spelling are not in the way.
 says 2 "standard input:2: this isn't text: byte 7 of the file is 0xff" 'skip\nsk\377p\n'

@@ -129,7 +129,7 @@ fn place(head: &[u8; HEAD]) -> usize {
 }
 
 fn checked(head: [u8; HEAD]) -> Checked {
-    Checked { number: head[0], place: place(&head) }
+    Checked { number: head[0], detail: head[1], place: place(&head) }
 }
 
 /// Runs an event list on a state.
@@ -140,14 +140,14 @@ pub fn run(state: &mut [u8], table: &[u8], events: &[u8], tally: &mut Tally) -> 
     tally.produced = word(&head, 32);
     tally.forwards = word(&head, 40);
     tally.deliveries = word(&head, 48);
-    Answer { number: head[0], place: place(&head), accepted: word(&head, 16) as usize }
+    Answer { number: head[0], detail: head[1], place: place(&head), accepted: word(&head, 16) as usize }
 }
 
 /// Forwards one message.
 pub fn forward(state: &mut [u8], table: &[u8], peer: u8, message: u8) -> Forwarded {
     let arguments = Arguments { peer, message, ..Arguments::default() };
     let head = call(Function::Forward, arguments, &mut [Lent::Write(state), Lent::Read(table)]);
-    Forwarded { number: head[0], place: place(&head), deliveries: half(&head, 24) }
+    Forwarded { number: head[0], detail: head[1], place: place(&head), deliveries: half(&head, 24) }
 }
 
 /// Forwards by rounds until nothing is pending or the budget is spent.
@@ -156,10 +156,11 @@ pub fn drain(state: &mut [u8], table: &[u8], budget: u32) -> Drained {
     let head = call(Function::Drain, arguments, &mut [Lent::Write(state), Lent::Read(table)]);
     Drained {
         number: head[0],
+        detail: head[1],
         place: place(&head),
         forwards: half(&head, 24),
         rounds: half(&head, 28),
-        quiet: head[1] != 0,
+        quiet: head[2] != 0,
     }
 }
 

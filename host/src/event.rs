@@ -138,12 +138,12 @@ pub fn decode_all(records: &[u8]) -> (Vec<Event>, Option<Refusal>) {
     let mut events = Vec::new();
     let whole = records.chunks_exact(RECORD);
     if !whole.remainder().is_empty() {
-        return (events, Some(Refusal { reason: Reason::EventsLength, place: 0 }));
+        return (events, Some(Refusal::at(Reason::EventsLength, 0)));
     }
     for (place, record) in whole.enumerate() {
         match Event::decode(record.try_into().expect("sixteen bytes")) {
             Ok(event) => events.push(event),
-            Err(reason) => return (events, Some(Refusal { reason, place })),
+            Err(reason) => return (events, Some(Refusal::at(reason, place))),
         }
     }
     (events, None)

@@ -21,6 +21,7 @@
 //! | [`raw`] | the six functions of the engine on lent bytes of any length |
 //! | [`numbers`] | peers, topics, messages and sets of them, as separate types |
 //! | [`refusal`] | the numbers that the engine answers, and what they mean |
+//! | [`fault`] | what is found in a refused state, and what its rule expects, in words |
 //! | [`event`] | the seven events and their 16-byte records |
 //! | [`text`] | the same events as lines of text |
 //! | [`network`] | networks, message tables and images |
@@ -28,6 +29,7 @@
 #[cfg(bridged)]
 mod bridge;
 pub mod event;
+pub mod fault;
 #[cfg(not(bridged))]
 mod ffi;
 pub mod network;

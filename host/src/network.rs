@@ -6,7 +6,7 @@ use crate::raw::{self, Tally};
 use crate::refusal::Refusal;
 use std::fmt;
 
-const STATE: usize = 5120;
+pub(crate) const STATE: usize = 5120;
 const TABLE: usize = 256;
 const PEER: usize = 160;
 const ROW: usize = 4;
@@ -41,11 +41,11 @@ impl Network {
         Network { bytes: Box::new([0; STATE]) }
     }
 
-    /// Reads a state; refused by 1, then 5.
+    /// Reads a state; refused by 1, then 20 to 26. `fault` has what such a refusal is about, in words.
     pub fn read(bytes: &[u8]) -> Result<Network, Refusal> {
         let mut network = Network::blank();
         let checked = raw::copy(bytes, &mut network.bytes[..]);
-        Refusal::of_answer(checked.number, checked.place)?;
+        Refusal::of_answer(checked.number, checked.place, checked.detail)?;
         Ok(network)
     }
 
@@ -64,7 +64,8 @@ impl Network {
     pub fn run_records(&mut self, table: &Table, records: &[u8]) -> Run {
         let mut tally = Tally::default();
         let answer = raw::run(&mut self.bytes[..], table.bytes(), records, &mut tally);
-        Run { accepted: answer.accepted, tally, refusal: Refusal::of_answer(answer.number, answer.place).err() }
+        let refusal = Refusal::of_answer(answer.number, answer.place, answer.detail).err();
+        Run { accepted: answer.accepted, tally, refusal }
     }
 
     /// Runs one event; the network stays as it is if the event is refused.
@@ -79,14 +80,14 @@ impl Network {
     /// Forwards one message and answers the deliveries; refused by 8, then 13.
     pub fn forward(&mut self, table: &Table, peer: Peer, message: Message) -> Result<u32, Refusal> {
         let forwarded = raw::forward(&mut self.bytes[..], table.bytes(), peer.get(), message.get());
-        Refusal::of_answer(forwarded.number, forwarded.place)?;
+        Refusal::of_answer(forwarded.number, forwarded.place, forwarded.detail)?;
         Ok(forwarded.deliveries)
     }
 
     /// Forwards by rounds until nothing is pending or the budget is spent.
     pub fn drain(&mut self, table: &Table, budget: u32) -> Drained {
         let drained = raw::drain(&mut self.bytes[..], table.bytes(), budget);
-        accepted(drained.number, drained.place);
+        accepted(drained.number, drained.place, drained.detail);
         Drained { forwards: drained.forwards, rounds: drained.rounds, quiet: drained.quiet }
     }
 
@@ -94,7 +95,7 @@ impl Network {
     pub fn image(&self) -> Image {
         let mut bytes = Box::new([0; STATE]);
         let checked = raw::image(self.bytes(), &mut bytes[..]);
-        accepted(checked.number, checked.place);
+        accepted(checked.number, checked.place, checked.detail);
         Image { bytes }
     }
 
@@ -124,8 +125,8 @@ impl Network {
 }
 
 /// For calls that a sound network and a good table leave nothing to refuse.
-fn accepted(number: u8, place: usize) {
-    if let Err(refusal) = Refusal::of_answer(number, place) {
+fn accepted(number: u8, place: usize, detail: u8) {
+    if let Err(refusal) = Refusal::of_answer(number, place, detail) {
         panic!("the engine refused a sound network: {refusal}");
     }
 }
@@ -148,6 +149,22 @@ pub struct Desk {
 }
 
 impl Desk {
+    /// What a record holds behind its first four bytes, whether present, absent or neither.
+    pub(crate) fn of_record(record: &[u8]) -> Desk {
+        let word = |at: usize, length: usize| {
+            let bytes = record[at..at + length].iter().rev();
+            bytes.fold(0, |word, &byte| word << 8 | u64::from(byte))
+        };
+        Desk {
+            pubs: Set::of_word(word(4, 4)),
+            subs: Set::of_word(word(8, 4)),
+            neighbours: Set::of_word(word(12, 4)),
+            pending: Set::of_word(word(16, 8)),
+            seen: Set::of_word(word(24, 8)),
+            known: std::array::from_fn(|topic| Set::of_word(word(32 + 4 * topic, 4))),
+        }
+    }
+
     /// The known subscribers of a topic among the neighbours.
     pub fn known(&self, topic: Topic) -> Set<Peer> {
         self.known[usize::from(topic.get())]
@@ -155,22 +172,13 @@ impl Desk {
 }
 
 fn desk(state: &[u8; STATE], peer: Peer) -> Option<Desk> {
-    let record = &state[usize::from(peer.get()) * PEER..][..PEER];
-    let word = |at: usize, length: usize| {
-        let bytes = record[at..at + length].iter().rev();
-        bytes.fold(0, |word, &byte| word << 8 | u64::from(byte))
-    };
-    if record[0] == 0 {
-        return None;
-    }
-    Some(Desk {
-        pubs: Set::of_word(word(4, 4)),
-        subs: Set::of_word(word(8, 4)),
-        neighbours: Set::of_word(word(12, 4)),
-        pending: Set::of_word(word(16, 8)),
-        seen: Set::of_word(word(24, 8)),
-        known: std::array::from_fn(|topic| Set::of_word(word(32 + 4 * topic, 4))),
-    })
+    let record = record(state, peer);
+    (record[0] != 0).then(|| Desk::of_record(record))
+}
+
+/// A peer's record in a state's bytes.
+pub(crate) fn record(state: &[u8; STATE], peer: Peer) -> &[u8] {
+    &state[usize::from(peer.get()) * PEER..][..PEER]
 }
 
 /// The commitment image of a network: presence, pubs, subs, and what is seen and pending nowhere.
@@ -213,7 +221,7 @@ impl Table {
     pub fn read(bytes: &[u8]) -> Result<Table, Refusal> {
         let mut blank = Network::blank();
         let answer = raw::run(&mut blank.bytes[..], bytes, &[], &mut Tally::default());
-        Refusal::of_answer(answer.number, answer.place)?;
+        Refusal::of_answer(answer.number, answer.place, answer.detail)?;
         let mut table = Table::zero();
         table.bytes.copy_from_slice(bytes);
         Ok(table)

@@ -96,6 +96,16 @@ impl<N: Number> Set<N> {
         self.word == 0
     }
 
+    /// The members of both sets.
+    pub fn common(self, other: Set<N>) -> Set<N> {
+        Set::of_word(self.word & other.word)
+    }
+
+    /// The members that the other set lacks.
+    pub fn without(self, other: Set<N>) -> Set<N> {
+        Set::of_word(self.word & !other.word)
+    }
+
     /// The members, rising.
     pub fn members(self) -> impl Iterator<Item = N> {
         N::all().filter(move |&number| self.has(number))
@@ -160,6 +170,13 @@ mod tests {
         assert!(Peer::new(31).is_some() && Peer::new(32).is_none());
         assert!(Topic::new(31).is_some() && Topic::new(32).is_none());
         assert!(Message::new(63).is_some() && Message::new(64).is_none());
+    }
+
+    #[test]
+    fn sets_are_compared_member_by_member() {
+        let (one, other) = (Set::<Message>::of_word(1 << 63 | 0b110), Set::<Message>::of_word(1 << 63 | 0b011));
+        assert_eq!(one.common(other), Set::of_word(1 << 63 | 0b010));
+        assert_eq!(one.without(other), Set::of_word(0b100));
     }
 
     #[test]

@@ -1,4 +1,4 @@
-//! Why the engine refuses, in the words of document 01 ("Numbers returned").
+//! Why the engine refuses: the numbers that it answers, in the words of docs/RULES.md (6).
 
 use std::error::Error;
 use std::fmt;
@@ -11,7 +11,6 @@ pub enum Reason {
     TableLength = 2,
     EventsLength = 3,
     TableRow = 4,
-    StateUnsound = 5,
     UnknownCode = 6,
     BadField = 7,
     PeerAbsent = 8,
@@ -25,17 +24,23 @@ pub enum Reason {
     NeighbourAbsent = 16,
     InputLength = 17,
     ImageLength = 18,
+    PresenceByte = 20,
+    AbsentNotEmpty = 21,
+    ListsItself = 22,
+    NeighbourNotPresent = 23,
+    NotListedBack = 24,
+    KnownSubscribersWrong = 25,
+    PendingAlsoSeen = 26,
 }
 
 use Reason::*;
 
 /// Every reason beside its meaning, in the order of the numbers.
-const MEANINGS: [(Reason, &str); 18] = [
+const MEANINGS: [(Reason, &str); 24] = [
     (StateLength, "state isn't 5,120 bytes"),
     (TableLength, "message table isn't 256 bytes"),
     (EventsLength, "event bytes aren't a multiple of 16"),
     (TableRow, "a message row has topic or origin above 31, or bytes 2-3 not zero"),
-    (StateUnsound, "state unsound"),
     (UnknownCode, "unknown code"),
     (BadField, "peer above 31, message above 63, or an unused byte not zero"),
     (PeerAbsent, "peer absent"),
@@ -49,13 +54,22 @@ const MEANINGS: [(Reason, &str); 18] = [
     (NeighbourAbsent, "a named neighbour is absent"),
     (InputLength, "input above 65,536 bytes"),
     (ImageLength, "image buffer isn't 5,120 bytes"),
+    (PresenceByte, "presence byte or zero bytes"),
+    (AbsentNotEmpty, "absent record not empty"),
+    (ListsItself, "own neighbour"),
+    (NeighbourNotPresent, "neighbour absent"),
+    (NotListedBack, "neighbour doesn't list back"),
+    (KnownSubscribersWrong, "known subscribers wrong"),
+    (PendingAlsoSeen, "pending also seen"),
 ];
 
+/// The numbers of refusals, for a message: 5 is no longer one, and 19 never was.
+pub const NUMBERS: &str = "1 to 4, 6 to 18 and 20 to 26";
+
 impl Reason {
-    /// The reason with this number; none for 0 ("done") and for numbers that document 01 doesn't have.
+    /// The reason with this number; none for 0 ("done") and for numbers that aren't answered.
     pub fn of_number(number: u8) -> Option<Reason> {
-        let place = usize::from(number).checked_sub(1)?;
-        MEANINGS.get(place).map(|&(reason, _)| reason)
+        MEANINGS.iter().map(|&(reason, _)| reason).find(|reason| reason.number() == number)
     }
 
     pub fn number(self) -> u8 {
@@ -63,7 +77,13 @@ impl Reason {
     }
 
     pub fn meaning(self) -> &'static str {
-        MEANINGS[usize::from(self.number()) - 1].1
+        let found = MEANINGS.iter().find(|(reason, _)| *reason == self);
+        found.expect("every reason has its meaning").1
+    }
+
+    /// Does it say that the state is unsound? So do 20 to 26, one for each rule of a record.
+    pub fn is_unsound(self) -> bool {
+        (PresenceByte.number()..=PendingAlsoSeen.number()).contains(&self.number())
     }
 
     /// What the place of such a refusal counts; nothing where the place is always 0.
@@ -71,8 +91,17 @@ impl Reason {
         match self {
             StateLength | TableLength | EventsLength | InputLength | ImageLength => None,
             TableRow => Some("row"),
-            StateUnsound => Some("record"),
+            _ if self.is_unsound() => Some("record"),
             _ => Some("event"),
+        }
+    }
+
+    /// What the detail of such a refusal counts; nothing where the detail is always 0.
+    pub fn detail_of(self) -> Option<&'static str> {
+        match self {
+            NeighbourNotPresent | NotListedBack => Some("neighbour"),
+            KnownSubscribersWrong => Some("topic"),
+            _ => None,
         }
     }
 }
@@ -83,34 +112,43 @@ impl fmt::Display for Reason {
     }
 }
 
-/// A refusal: the number and the place.
+/// A refusal: the number, the place, and the neighbour or topic at fault (0 where the reason has none).
 #[derive(Clone, Copy, Debug, PartialEq, Eq)]
 pub struct Refusal {
     pub reason: Reason,
     pub place: usize,
+    pub detail: u8,
 }
 
 impl Refusal {
+    /// A refusal whose reason has no detail.
+    pub fn at(reason: Reason, place: usize) -> Refusal {
+        Refusal { reason, place, detail: 0 }
+    }
+
     /// The answer of the engine as a result: 0 is "done".
-    pub fn of_answer(number: u8, place: usize) -> Result<(), Refusal> {
+    pub fn of_answer(number: u8, place: usize, detail: u8) -> Result<(), Refusal> {
         if number == 0 {
             return Ok(());
         }
         match Reason::of_number(number) {
-            Some(reason) => Err(Refusal { reason, place }),
-            None => panic!("the engine answered {number}, which is no number of document 01"),
+            Some(reason) => Err(Refusal { reason, place, detail }),
+            None => panic!("the engine answered {number}, which is no number of docs/RULES.md"),
         }
     }
 }
 
-/// For example `leaver has something pending (14, event 4)`.
+/// For example `leaver has something pending (14, event 4)` or `neighbour doesn't list back (24, record 1, neighbour 4)`.
 impl fmt::Display for Refusal {
     fn fmt(&self, out: &mut fmt::Formatter) -> fmt::Result {
-        let number = self.reason.number();
-        match self.reason.place_of() {
-            Some(counted) => write!(out, "{} ({number}, {counted} {})", self.reason, self.place),
-            None => write!(out, "{} ({number})", self.reason),
+        write!(out, "{} ({}", self.reason, self.reason.number())?;
+        if let Some(counted) = self.reason.place_of() {
+            write!(out, ", {counted} {}", self.place)?;
         }
+        if let Some(counted) = self.reason.detail_of() {
+            write!(out, ", {counted} {}", self.detail)?;
+        }
+        write!(out, ")")
     }
 }
 
@@ -121,22 +159,50 @@ mod tests {
     use super::*;
 
     #[test]
-    fn the_table_is_in_order() {
-        for (place, (reason, _)) in MEANINGS.iter().enumerate() {
-            assert_eq!(usize::from(reason.number()), place + 1);
-            assert_eq!(Reason::of_number(reason.number()), Some(*reason));
+    fn the_table_is_in_order_and_has_the_numbers_that_are_said() {
+        let mut said: Vec<u8> = Vec::new();
+        for range in NUMBERS.replace(" and ", ", ").split(", ") {
+            let (first, last) = range.split_once(" to ").unwrap();
+            said.extend(first.parse::<u8>().unwrap()..=last.parse().unwrap());
         }
-        assert_eq!(Reason::of_number(0), None);
-        assert_eq!(Reason::of_number(19), None);
+        let numbers: Vec<u8> = MEANINGS.iter().map(|(reason, _)| reason.number()).collect();
+        assert_eq!(numbers, said);
+        for number in 0..=u8::MAX {
+            let found = Reason::of_number(number).map(Reason::number);
+            assert_eq!(found, said.contains(&number).then_some(number));
+        }
+        assert_eq!(Reason::of_number(5), None);
+        assert_eq!(KnownSubscribersWrong.meaning(), "known subscribers wrong");
+        let unsound: Vec<u8> =
+            said.into_iter().filter(|&number| Reason::of_number(number).unwrap().is_unsound()).collect();
+        assert_eq!(unsound, [20, 21, 22, 23, 24, 25, 26]);
+    }
+
+    #[test]
+    fn the_header_lists_the_same_numbers_and_meanings() {
+        let header = include_str!("../relay.h");
+        for number in 1..=u8::MAX {
+            let start = format!(" *   {number:2} ");
+            let line = header.lines().find_map(|line| line.strip_prefix(&start));
+            let listed = line.map(|line| line.split("  ").next().unwrap_or_default());
+            // 17 is the run program's own.
+            let meaning = Reason::of_number(number).filter(|&reason| reason != InputLength).map(Reason::meaning);
+            assert_eq!(listed, meaning, "{number}");
+        }
     }
 
     #[test]
     fn a_refusal_says_what_and_where() {
-        let refusal = Refusal::of_answer(14, 4).unwrap_err();
-        assert_eq!(refusal.to_string(), "leaver has something pending (14, event 4)");
-        let refusal = Refusal::of_answer(5, 31).unwrap_err();
-        assert_eq!(refusal.to_string(), "state unsound (5, record 31)");
-        let refusal = Refusal::of_answer(1, 0).unwrap_err();
-        assert_eq!(refusal.to_string(), "state isn't 5,120 bytes (1)");
+        let said = |number, place, detail| Refusal::of_answer(number, place, detail).unwrap_err().to_string();
+        assert_eq!(Refusal::of_answer(0, 0, 0), Ok(()));
+        assert_eq!(said(14, 4, 0), "leaver has something pending (14, event 4)");
+        assert_eq!(said(1, 0, 0), "state isn't 5,120 bytes (1)");
+        assert_eq!(said(20, 31, 0), "presence byte or zero bytes (20, record 31)");
+        assert_eq!(said(21, 0, 0), "absent record not empty (21, record 0)");
+        assert_eq!(said(22, 7, 0), "own neighbour (22, record 7)");
+        assert_eq!(said(23, 1, 4), "neighbour absent (23, record 1, neighbour 4)");
+        assert_eq!(said(24, 1, 4), "neighbour doesn't list back (24, record 1, neighbour 4)");
+        assert_eq!(said(25, 1, 0), "known subscribers wrong (25, record 1, topic 0)");
+        assert_eq!(said(26, 3, 0), "pending also seen (26, record 3)");
     }
 }

@@ -61,7 +61,7 @@ fn images_and_neighbours_of_the_cases() {
     let five = Message::new(5).unwrap();
     assert_eq!(produced.forward(&Table::zero(), peer(0), five), Ok(1));
     let refusal = produced.forward(&Table::zero(), peer(0), five).unwrap_err();
-    assert_eq!(refusal, Refusal { reason: Reason::NotPending, place: 0 });
+    assert_eq!(refusal, Refusal::at(Reason::NotPending, 0));
 }
 
 #[test]
@@ -79,13 +79,13 @@ fn damaged_records_of_a10() {
         let (mut network, _) = after(&H);
         let before = network.clone();
         let run = network.run_records(&Table::zero(), &record);
-        assert_eq!(run.refusal, Some(Refusal { reason, place: 0 }), "A10");
+        assert_eq!(run.refusal, Some(Refusal::at(reason, 0)), "A10");
         assert!(network == before && run.accepted == 0);
     }
 }
 
-/// State, table and events, and the number and place that refuse them.
-type Case<'a> = (&'a [u8], &'a [u8], &'a [u8], u8, usize);
+/// State, table and events, and the number, place and detail that refuse them.
+type Case<'a> = (&'a [u8], &'a [u8], &'a [u8], (u8, usize, u8));
 
 #[test]
 fn wrong_lengths_and_damage_are_refused_and_nothing_is_written() {
@@ -97,25 +97,25 @@ fn wrong_lengths_and_damage_are_refused_and_nothing_is_written() {
     row[4 * 9 + 2] = 1;
     let sound = network.bytes();
     let cases: [Case; 6] = [
-        (&sound[1..], &[0; 255], &[0; 15], 1, 0),
-        (sound, &[0; 257], &[0; 15], 2, 0),
-        (sound, &row, &[0; 15], 3, 0),
-        (&unsound, &row, &[0; 16], 4, 9),
-        (&unsound, &[0; 256], &[7; 16], 5, 0),
-        (&[], &[], &[], 1, 0),
+        (&sound[1..], &[0; 255], &[0; 15], (1, 0, 0)),
+        (sound, &[0; 257], &[0; 15], (2, 0, 0)),
+        (sound, &row, &[0; 15], (3, 0, 0)),
+        (&unsound, &row, &[0; 16], (4, 9, 0)),
+        (&unsound, &[0; 256], &[7; 16], (24, 0, 1)),
+        (&[], &[], &[], (1, 0, 0)),
     ];
-    for (state, table, records, number, place) in cases {
+    for (state, table, records, (number, place, detail)) in cases {
         let (mut lent, mut tally) = (state.to_vec(), start);
         let answer = raw::run(&mut lent, table, records, &mut tally);
-        assert_eq!(answer, Answer { number, place, accepted: 0 });
+        assert_eq!(answer, Answer { number, detail, place, accepted: 0 });
         assert!(lent == state && tally == start);
     }
     let mut image = [1; 5119];
-    assert_eq!(raw::image(sound, &mut image), Checked { number: 18, place: 0 });
-    assert_eq!(raw::copy(sound, &mut image), Checked { number: 1, place: 0 });
-    assert_eq!(raw::copy(&unsound, &mut image), Checked { number: 5, place: 0 });
+    assert_eq!(raw::image(sound, &mut image), Checked { number: 18, detail: 0, place: 0 });
+    assert_eq!(raw::copy(sound, &mut image), Checked { number: 1, detail: 0, place: 0 });
+    assert_eq!(raw::copy(&unsound, &mut image), Checked { number: 24, detail: 1, place: 0 });
     assert_eq!(image, [1; 5119]);
-    let refused = Forwarded { number: 7, place: 0, deliveries: 0 };
+    let refused = Forwarded { number: 7, detail: 0, place: 0, deliveries: 0 };
     assert_eq!(raw::forward(&mut sound.to_vec(), &[0; 256], 0, 64), refused);
 }
 
@@ -130,7 +130,7 @@ fn files_are_read_only_if_the_engine_accepts_them() {
     let mut rows = [0; 256];
     rows[4 * 63] = 32;
     let refusal = Table::read(&rows).err().unwrap();
-    assert_eq!(refusal, Refusal { reason: Reason::TableRow, place: 63 });
+    assert_eq!(refusal, Refusal::at(Reason::TableRow, 63));
     rows[4 * 63] = 31;
     assert_eq!(Table::read(&rows).unwrap().bytes(), rows);
 }
@@ -180,7 +180,7 @@ fn the_host_reads_records_as_the_engine_does() {
             assert_eq!(event.to_string().parse(), Ok(event));
             assert_eq!(event.encode(), record);
         }
-        assert_eq!(raw::check(network.bytes()), Checked { number: 0, place: 0 });
+        assert_eq!(raw::check(network.bytes()), Checked { number: 0, detail: 0, place: 0 });
         accepted += run.accepted;
         damaged += usize::from(refusal.is_some());
     }

@@ -1,5 +1,6 @@
 //! The commands of the tool, and how a line of text becomes one.
 
+use relay_host::refusal::NUMBERS;
 use relay_host::text::{plain, TextError, Words, FORMS};
 use relay_host::{Event, Message, Reason, Row, ENOUGH};
 
@@ -94,7 +95,7 @@ fn other(name: &str, words: &mut Words) -> Result<Command, TextError> {
 fn refused(words: &mut Words) -> Result<Command, TextError> {
     let number = words.need("the number")?;
     let Some(reason) = number.parse().ok().and_then(Reason::of_number) else {
-        return fail(format!("`{number}` is no number of a refusal: they are 1 to 18"));
+        return fail(format!("`{number}` is no number of a refusal: they are {NUMBERS}"));
     };
     let name = words.need("the event")?;
     match words.event(name)? {
@@ -214,7 +215,10 @@ mod tests {
         assert_eq!(message("drain much"), "`much` is no budget: it is a number of forwards, 0 to 4294967295");
         assert_eq!(message("table 5 topic 1"), "`origin` is missing: table MESSAGE topic TOPIC origin PEER");
         assert_eq!(message("table 5 origin 1"), "`topic` is expected where `origin` stands");
-        assert_eq!(message("refused 19 skip"), "`19` is no number of a refusal: they are 1 to 18");
+        for number in ["0", "5", "19", "27"] {
+            let said = format!("`{number}` is no number of a refusal: they are 1 to 4, 6 to 18 and 20 to 26");
+            assert_eq!(message(&format!("refused {number} skip")), said);
+        }
         assert_eq!(message("refused 8 show"), "`show` is no event");
         assert_eq!(message("show 5"), "`5` is too much: show [message MESSAGE]");
         assert_eq!(message("load"), "the file is missing: load STATE [TABLE]");

@@ -1,24 +1,55 @@
-//! What a number means and what to do about it, in the words of docs/RULES.md.
+//! What a number means and what to do about it, in the words of docs/RULES.md; and what is wrong with a state file.
 
 use crate::session::Trouble;
+use crate::{files, words};
+use relay_host::fault;
+use relay_host::refusal::NUMBERS;
+use relay_host::text::plain;
+use relay_host::Network;
+use std::io::Write;
 
 const RULES: &str = include_str!("../../../../docs/RULES.md");
 
-/// What the rules say of a number: its heading, and the lines under it.
-fn paragraph(number: u8) -> Option<String> {
+/// What the rules say of a number: the heading, and the lines under it.
+fn paragraph(number: u8) -> Option<(&'static str, String)> {
     let heading = format!("### {number}: ");
     let mut lines = RULES.lines().skip_while(|line| !line.starts_with(&heading));
     let title = lines.next()?.strip_prefix("### ")?;
     let text: Vec<&str> = lines.take_while(|line| !line.is_empty()).collect();
-    Some(format!("{title}\n{}\n", text.join("\n")))
+    Some((title, text.join("\n")))
 }
 
-pub fn explain(word: &str) -> Result<String, Trouble> {
-    let digits = !word.is_empty() && word.bytes().all(|byte| byte.is_ascii_digit());
-    let number = if digits { word.parse().ok() } else { None };
-    number.and_then(paragraph).ok_or_else(|| {
-        Trouble::Text(format!("there is no number {word:?} to explain: numbers are 0 to 18 (docs/RULES.md, 6)"))
-    })
+/// Explains a word of digits as a number, any other as a state file (`./25` is a file, too).
+pub fn explain(word: &str, out: &mut dyn Write) -> Result<(), Trouble> {
+    if word.bytes().all(|byte| byte.is_ascii_digit()) {
+        return explain_number(word, out);
+    }
+    explain_state(word, &files::read(word)?, out)
+}
+
+fn explain_number(word: &str, out: &mut dyn Write) -> Result<(), Trouble> {
+    match word.parse().ok().and_then(paragraph) {
+        Some((title, text)) => Ok(writeln!(out, "{title}\n{text}")?),
+        None => Err(Trouble::Text(format!(
+            "there is no number {word:?} to explain: they are 0, {NUMBERS} (docs/RULES.md, 6)"
+        ))),
+    }
+}
+
+/// Says whether a state is sound; if not, which rule it breaks and where, what that means and what to do.
+fn explain_state(name: &str, state: &[u8], out: &mut dyn Write) -> Result<(), Trouble> {
+    let refusal = match Network::read(state) {
+        Ok(network) => {
+            let (present, pending) = (words::peers(network.desks().count()), words::pending(network.pending_pairs()));
+            return Ok(writeln!(out, "{} is sound: {present}, {pending}", plain(name))?);
+        }
+        Err(refusal) => refusal,
+    };
+    writeln!(out, "{} is refused: {}", plain(name), fault::in_words(state, &refusal))?;
+    if let Some((_, text)) = paragraph(refusal.reason.number()) {
+        writeln!(out, "{text}")?;
+    }
+    Err(Trouble::Refused(String::new()))
 }
 
 #[cfg(test)]
@@ -26,25 +57,56 @@ mod tests {
     use super::*;
     use relay_host::Reason;
 
+    /// What is written, and the status that the tool ends with.
+    fn said(explained: impl FnOnce(&mut dyn Write) -> Result<(), Trouble>) -> (String, u8) {
+        let mut out = Vec::new();
+        let status = explained(&mut out).map_or_else(|trouble| trouble.status(), |()| 0);
+        (String::from_utf8(out).unwrap(), status)
+    }
+
     #[test]
     fn every_number_is_explained_and_no_other() {
         for number in 1..=u8::MAX {
             match (Reason::of_number(number), paragraph(number)) {
-                (Some(reason), Some(text)) => {
-                    assert!(text.starts_with(&format!("{number}: {}\n", reason.meaning())), "{text}");
+                (Some(reason), Some((title, text))) => {
+                    assert_eq!(title, format!("{number}: {}", reason.meaning()));
                     assert!(text.contains("What to do: "), "{text}");
+                    assert!(!reason.is_unsound() || text.contains("The place is the record"), "{text}");
+                    assert_eq!(reason.detail_of().is_some(), text.contains("The detail is "), "{text}");
                 }
-                (None, None) => {}
-                (reason, text) => panic!("{number}: {reason:?}, {text:?}"),
+                (None, Some((title, text))) => {
+                    assert_eq!((number, title), (5, "5: no longer answered"));
+                    assert!(text.contains("20 to 26") && text.contains("What to do: "), "{text}");
+                }
+                (None, None) => assert_ne!(number, 5),
+                (Some(reason), None) => panic!("{number} ({reason}) is not explained"),
             }
         }
         assert!(paragraph(0).is_some());
     }
 
     #[test]
-    fn other_words_are_told_apart() {
-        for word in ["", "19", "-1", "+1", "1 ", "0x1", "256", "state"] {
-            assert!(explain(word).is_err(), "{word:?}");
+    fn digits_are_a_number_and_other_words_a_file() {
+        assert_eq!(said(|out| explain("14", out)).1, 0);
+        for word in ["", "19", "27", "256", "-1", "+1", "1 ", "0x1", "no such file"] {
+            assert_eq!(said(|out| explain(word, out)), (String::new(), 2), "{word:?}");
         }
+        let Err(trouble) = explain("19", &mut Vec::new()) else { panic!("explained") };
+        let numbers = "they are 0, 1 to 4, 6 to 18 and 20 to 26 (docs/RULES.md, 6)";
+        assert_eq!(trouble.message(), format!("there is no number \"19\" to explain: {numbers}"));
+    }
+
+    #[test]
+    fn a_state_is_sound_or_its_fault_is_told_with_the_rule() {
+        let (text, status) = said(|out| explain_state("a", &[0; 5120], out));
+        assert_eq!((text.as_str(), status), ("a is sound: 0 peers present, nothing pending\n", 0));
+        let mut state = [0; 5120];
+        state[160 * 31] = 2;
+        let (text, status) = said(|out| explain_state("a", &state, out));
+        let first = "a is refused: presence byte or zero bytes (20, record 31): byte 0 is 2, expected 0 or 1\n";
+        assert_eq!((text, status), (format!("{first}{}\n", paragraph(20).unwrap().1), 1));
+        let (text, status) = said(|out| explain_state("a", &state[1..], out));
+        let first = "a is refused: state isn't 5,120 bytes (1): found 5119\n";
+        assert_eq!((text, status), (format!("{first}{}\n", paragraph(1).unwrap().1), 1));
     }
 }

@@ -1,7 +1,7 @@
 //! The command-line tool: a relay network as plain text, on the proved engine. `relay --help` explains it.
 //!
 //! `command` reads a line, `session` does what it says, `show` and `words` put it into words, `explain` says what a number
-//! means, `picture` draws, `files` reads and writes.
+//! means and what is wrong with a state, `picture` draws, `files` reads and writes.
 
 mod command;
 mod explain;
@@ -34,7 +34,7 @@ fn main() -> ExitCode {
         ["--version"] => print(concat!("relay ", env!("CARGO_PKG_VERSION"), "\n")),
         ["encode", script, file] => encode(script, file),
         ["decode", file] => decode(file),
-        ["explain", number] => explain::explain(number).and_then(|text| print(&text)),
+        ["explain", word] => explain::explain(word, &mut io::stdout().lock()),
         [] | ["-v"] if io::stdin().is_terminal() => {
             talk(&mut io::stdin().lock(), &mut io::stdout().lock(), !words.is_empty())
         }

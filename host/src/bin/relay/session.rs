@@ -3,6 +3,7 @@
 use crate::command::Command;
 use crate::{files, picture, show, words, HELP};
 use relay_host::event::{Event, RECORD};
+use relay_host::fault;
 use relay_host::text::plain;
 use relay_host::{Message, Network, Reason, Refusal, Row, Set, Table, Tally};
 use std::io::{self, Write};
@@ -154,7 +155,7 @@ impl Session {
 
     /// A refused event in words. Its place counts from the first event of the session.
     fn explain(&self, event: &Event, reason: Reason) -> String {
-        let refusal = Refusal { reason, place: self.accepted() };
+        let refusal = Refusal::at(reason, self.accepted());
         words::refused(&self.network, &self.table, event, &refusal)
     }
 
@@ -197,10 +198,13 @@ impl Session {
 
     /// Takes a state, and a table if one is named, from files. Nothing changes if either is refused.
     fn load(&mut self, state: &str, table: Option<&str>) -> Result<(), Trouble> {
-        let refused = |file: &str, refusal: Refusal| Trouble::Refused(format!("{file} is refused: {refusal}"));
-        let network = Network::read(&files::read(state)?).map_err(|refusal| refused(state, refusal))?;
+        let bytes = files::read(state)?;
+        let network = Network::read(&bytes).map_err(|refusal| {
+            Trouble::Refused(format!("{state} is refused: {}", fault::in_words(&bytes, &refusal)))
+        })?;
         if let Some(file) = table {
-            self.table = Table::read(&files::read(file)?).map_err(|refusal| refused(file, refusal))?;
+            self.table = Table::read(&files::read(file)?)
+                .map_err(|refusal| Trouble::Refused(format!("{file} is refused: {refusal}")))?;
         }
         let table = self.table.clone();
         *self = Session { network, table, ..Session::new(self.aloud) };

@@ -1,6 +1,6 @@
-//! The one table of what is compared: each part with its cases, the numbers that it can answer and the
-//! details that must occur. A later request adds its numbers, parts and details here (and makes its inputs
-//! in cases.rs); nothing else has a list of its own.
+//! The one table of what is compared: each part with its cases, the numbers that it can answer and what must
+//! occur besides. A later request adds its numbers, parts and occurrences here (and makes its inputs in
+//! cases.rs); nothing else has a list of its own.
 
 #[derive(Clone, Copy, Debug, PartialEq, Eq)]
 pub enum Part {
@@ -25,8 +25,8 @@ pub struct Entry {
     /// How often each number must be answered in these.
     pub least: u64,
     pub numbers: &'static [u8],
-    /// What must occur besides, in the words of details.rs.
-    pub details: &'static [&'static [&'static str]],
+    /// What must occur besides, in the words of occurrences.rs.
+    pub must_occur: &'static [&'static [&'static str]],
 }
 
 /// One more than the largest number of 01's table.
@@ -39,7 +39,7 @@ pub const ENTRIES: [Entry; 9] = [
         cases: 6000,
         least: 100,
         numbers: &[0, 1, 5],
-        details: &[RULES],
+        must_occur: &[RULES],
     },
     Entry {
         part: Part::Copy,
@@ -47,7 +47,7 @@ pub const ENTRIES: [Entry; 9] = [
         cases: 4000,
         least: 100,
         numbers: &[0, 1, 5],
-        details: &[RULES, COPIES],
+        must_occur: &[RULES, COPIES],
     },
     Entry {
         part: Part::Run,
@@ -55,7 +55,7 @@ pub const ENTRIES: [Entry; 9] = [
         cases: 12000,
         least: 100,
         numbers: &[0, 1, 2, 3, 4, 5, 6, 7, 8, 9, 10, 11, 12, 13, 14, 15, 16],
-        details: &[RULES, ROWS, EVENTS],
+        must_occur: &[RULES, ROWS, EVENTS],
     },
     Entry {
         part: Part::Long,
@@ -63,7 +63,7 @@ pub const ENTRIES: [Entry; 9] = [
         cases: 80,
         least: 4,
         numbers: &[0, 6, 7, 8, 9, 10, 11, 12, 13, 14, 15, 16],
-        details: &[LONG],
+        must_occur: &[LONG],
     },
     Entry {
         part: Part::Forward,
@@ -71,7 +71,7 @@ pub const ENTRIES: [Entry; 9] = [
         cases: 8000,
         least: 100,
         numbers: &[0, 1, 2, 4, 5, 7, 8, 13],
-        details: &[RULES, ROWS, FORWARDS],
+        must_occur: &[RULES, ROWS, FORWARDS],
     },
     Entry {
         part: Part::Drain,
@@ -79,7 +79,7 @@ pub const ENTRIES: [Entry; 9] = [
         cases: 6000,
         least: 100,
         numbers: &[0, 1, 2, 4, 5],
-        details: &[ROWS, DRAINS],
+        must_occur: &[ROWS, DRAINS],
     },
     Entry {
         part: Part::Image,
@@ -87,16 +87,23 @@ pub const ENTRIES: [Entry; 9] = [
         cases: 5000,
         least: 100,
         numbers: &[0, 1, 5, 18],
-        details: &[&["hides a message", "hides none"]],
+        must_occur: &[&["hides a message", "hides none"]],
     },
-    Entry { part: Part::Orders, name: "orders", cases: 160, least: 160, numbers: &[0], details: &[ORDERS] },
+    Entry {
+        part: Part::Orders,
+        name: "orders",
+        cases: 160,
+        least: 160,
+        numbers: &[0],
+        must_occur: &[ORDERS],
+    },
     Entry {
         part: Part::Program,
         name: "program",
         cases: 3000,
         least: 30,
         numbers: &[0, 1, 2, 3, 4, 5, 6, 7, 8, 9, 10, 11, 12, 13, 14, 15, 16, 17],
-        details: &[PROGRAM],
+        must_occur: &[PROGRAM],
     },
 ];
 

@@ -10,20 +10,20 @@ use crate::subject::{tally_of, Call, Reply};
 /// The kinds by their codes.
 const KINDS: [&str; 7] = ["skip", "produce", "forward", "subscribe", "unsubscribe", "leave", "join"];
 
-/// A detail and how often it occurred in the case.
-pub type Detail = (String, u64);
+/// What occurred, and how often in the case.
+pub type Occurrence = (String, u64);
 
-fn once(words: &str) -> Detail {
+fn once(words: &str) -> Occurrence {
     (words.to_string(), 1)
 }
 
 /// Those that are so, once each.
-fn those(details: &[(bool, &str)]) -> Vec<Detail> {
-    details.iter().filter(|(is_so, _)| *is_so).map(|(_, words)| once(words)).collect()
+fn those(occurrences: &[(bool, &str)]) -> Vec<Occurrence> {
+    occurrences.iter().filter(|(is_so, _)| *is_so).map(|(_, words)| once(words)).collect()
 }
 
-/// The details of a call, by what the model answers and the buffers before and after it.
-pub fn of_call(case: &Case, reply: &Reply, after: &[Vec<u8>]) -> Vec<Detail> {
+/// What occurred in a call, by what the model answers and the buffers before and after it.
+pub fn of_call(case: &Case, reply: &Reply, after: &[Vec<u8>]) -> Vec<Occurrence> {
     let mut found = match (case.call, reply) {
         (Call::Copy, _) => of_copy(case, reply),
         (Call::Run, Reply::Answer(answer)) => of_run(case, answer, &after[3]),
@@ -48,7 +48,7 @@ fn seen_pairs(state: &[u8]) -> u32 {
     seen.map(|byte| byte.count_ones()).sum()
 }
 
-fn of_run(case: &Case, answer: &Answer, tally: &[u8]) -> Vec<Detail> {
+fn of_run(case: &Case, answer: &Answer, tally: &[u8]) -> Vec<Occurrence> {
     let mut found = of_events(&case.buffers[2], answer);
     if case.buffers[2].len() >= 65_535 * EVENT_SIZE {
         found.extend(of_long(case, answer, &tally_of(tally)));
@@ -56,7 +56,7 @@ fn of_run(case: &Case, answer: &Answer, tally: &[u8]) -> Vec<Detail> {
     found
 }
 
-fn of_forward(answer: &Forwarded, peer: u8) -> Vec<Detail> {
+fn of_forward(answer: &Forwarded, peer: u8) -> Vec<Occurrence> {
     let deliveries = answer.deliveries;
     those(&[
         (answer.number == 0 && deliveries == 0, "no delivery"),
@@ -69,7 +69,7 @@ fn of_forward(answer: &Forwarded, peer: u8) -> Vec<Detail> {
 }
 
 /// For 5: which rule is broken, and at which record.
-fn of_unsound(state: &[u8], place: usize) -> Vec<Detail> {
+fn of_unsound(state: &[u8], place: usize) -> Vec<Occurrence> {
     let fault = Network::parse(state).lowest_unsound().expect("an unsound record").1;
     let record = match place {
         0 => "record 0",
@@ -79,7 +79,7 @@ fn of_unsound(state: &[u8], place: usize) -> Vec<Detail> {
     vec![once(&format!("{fault:?}")), once(record)]
 }
 
-fn of_copy(case: &Case, reply: &Reply) -> Vec<Detail> {
+fn of_copy(case: &Case, reply: &Reply) -> Vec<Occurrence> {
     let long = |i: usize| case.buffers[i].len() == STATE_SIZE;
     match reply.number() {
         1 if !long(0) => vec![once("1 for the one read")],
@@ -90,7 +90,7 @@ fn of_copy(case: &Case, reply: &Reply) -> Vec<Detail> {
 }
 
 /// For 4: which row, and which of its bytes is the first that is wrong.
-fn of_row(table: &[u8], place: usize) -> Vec<Detail> {
+fn of_row(table: &[u8], place: usize) -> Vec<Occurrence> {
     let row = &table[4 * place..4 * place + 4];
     let byte = (0..4).find(|i| row[*i] > [31, 31, 0, 0][*i]).expect("a wrong byte");
     let which = match place {
@@ -102,13 +102,13 @@ fn of_row(table: &[u8], place: usize) -> Vec<Detail> {
 }
 
 /// The kinds that were accepted, and what was refused by which number.
-fn of_events(events: &[u8], answer: &Answer) -> Vec<Detail> {
+fn of_events(events: &[u8], answer: &Answer) -> Vec<Occurrence> {
     let mut counts = [0; 7];
     for event in events.chunks(EVENT_SIZE).take(answer.accepted) {
         counts[event[0] as usize] += 1;
     }
     let kinds = KINDS.iter().zip(counts).filter(|(_, count)| *count > 0);
-    let mut found: Vec<Detail> = kinds.map(|(kind, count)| (format!("{kind} accepted"), count)).collect();
+    let mut found: Vec<Occurrence> = kinds.map(|(kind, count)| (format!("{kind} accepted"), count)).collect();
     if answer.number > 5 {
         let code = events[EVENT_SIZE * answer.place];
         found.push(once(&match (answer.number, code) {
@@ -126,7 +126,7 @@ fn of_events(events: &[u8], answer: &Answer) -> Vec<Detail> {
 }
 
 /// What a long list reaches.
-fn of_long(case: &Case, answer: &Answer, tally: &Tally) -> Vec<Detail> {
+fn of_long(case: &Case, answer: &Answer, tally: &Tally) -> Vec<Occurrence> {
     let past_5 = answer.number == 0 || answer.number > 5;
     those(&[
         (past_5 && case.buffers[2].iter().all(|byte| *byte == 0), "skips only"),
@@ -140,7 +140,7 @@ fn of_long(case: &Case, answer: &Answer, tally: &Tally) -> Vec<Detail> {
     ])
 }
 
-fn of_drain(case: &Case, reply: &Reply, budget: u32) -> Vec<Detail> {
+fn of_drain(case: &Case, reply: &Reply, budget: u32) -> Vec<Occurrence> {
     let Reply::Drained(answer) = reply else { return Vec::new() };
     if answer.number != 0 {
         return Vec::new();
@@ -175,8 +175,8 @@ fn ends_within(case: &Case, budget: u32) -> bool {
     }
 }
 
-/// The details of an input of the run program and of what it should write.
-pub fn of_input(input: &[u8], pieces: &[usize], number: u8, text: &[u8]) -> Vec<Detail> {
+/// What occurred in an input of the run program and in what it should write.
+pub fn of_input(input: &[u8], pieces: &[usize], number: u8, text: &[u8]) -> Vec<Occurrence> {
     let peers = text.iter().filter(|byte| **byte == b'\n').count() - 1;
     let shown = number == 0 || (6..=16).contains(&number);
     those(&[
@@ -191,8 +191,8 @@ pub fn of_input(input: &[u8], pieces: &[usize], number: u8, text: &[u8]) -> Vec<
     ])
 }
 
-/// The details of an input whose drain takes so many forwards.
-pub fn of_orders(forwards: u32) -> Vec<Detail> {
+/// What occurred in an input whose drain takes so many forwards.
+pub fn of_orders(forwards: u32) -> Vec<Occurrence> {
     vec![once(match forwards {
         0 => "no forward",
         1..=64 => "1 to 64 forwards",

@@ -29,6 +29,7 @@ mod pages;
 mod process;
 mod report;
 mod subject;
+mod unsound;
 
 use cases::{make, pieces, program_input, Case};
 use entries::{Part, ENTRIES};

@@ -4,8 +4,9 @@ use crate::cases::Case;
 use crate::model::calls::round;
 use crate::model::events::{Table, EVENT_SIZE};
 use crate::model::state::{Network, STATE_SIZE};
-use crate::model::{Answer, Forwarded, Tally};
+use crate::model::{refuses_an_event, Answer, Forwarded, Tally};
 use crate::subject::{tally_of, Call, Reply};
+use crate::unsound;
 
 /// The kinds by their codes.
 const KINDS: [&str; 7] = ["skip", "produce", "forward", "subscribe", "unsubscribe", "leave", "join"];
@@ -13,31 +14,35 @@ const KINDS: [&str; 7] = ["skip", "produce", "forward", "subscribe", "unsubscrib
 /// What occurred, and how often in the case.
 pub type Occurrence = (String, u64);
 
-fn once(words: &str) -> Occurrence {
+pub fn once(words: &str) -> Occurrence {
     (words.to_string(), 1)
 }
 
 /// Those that are so, once each.
-fn those(occurrences: &[(bool, &str)]) -> Vec<Occurrence> {
+pub fn those(occurrences: &[(bool, &str)]) -> Vec<Occurrence> {
     occurrences.iter().filter(|(is_so, _)| *is_so).map(|(_, words)| once(words)).collect()
 }
 
 /// What occurred in a call, by what the model answers and the buffers before and after it.
 pub fn of_call(case: &Case, reply: &Reply, after: &[Vec<u8>]) -> Vec<Occurrence> {
     let mut found = match (case.call, reply) {
-        (Call::Copy, _) => of_copy(case, reply),
+        (Call::Copy, _) => of_two(case, reply),
         (Call::Run, Reply::Answer(answer)) => of_run(case, answer, &after[3]),
-        (Call::Forward { peer, .. }, Reply::Forwarded(answer)) => of_forward(answer, peer),
+        (Call::Forward { peer, message }, Reply::Forwarded(answer)) => of_forward(answer, peer, message),
         (Call::Drain { budget }, _) => of_drain(case, reply, budget),
         (Call::Image, _) if reply.number() == 0 => {
             let hides = seen_pairs(&case.buffers[0]) > seen_pairs(&after[1]);
             vec![once(if hides { "hides a message" } else { "hides none" })]
         }
+        (Call::Image, _) => of_two(case, reply),
         _ => Vec::new(),
     };
     match reply.number() {
-        4 => found.extend(of_row(&case.buffers[1], reply.place())),
-        5 => found.extend(of_unsound(&case.buffers[0], reply.place())),
+        4 => {
+            found.extend(of_row(&case.buffers[1], reply.place()));
+            found.extend(of_row_first(&case.buffers[0]));
+        }
+        20..=26 => found.extend(unsound::of_state(&case.buffers[0], reply)),
         _ => (),
     }
     found
@@ -56,8 +61,9 @@ fn of_run(case: &Case, answer: &Answer, tally: &[u8]) -> Vec<Occurrence> {
     found
 }
 
-fn of_forward(answer: &Forwarded, peer: u8) -> Vec<Occurrence> {
+fn of_forward(answer: &Forwarded, peer: u8, message: u8) -> Vec<Occurrence> {
     let deliveries = answer.deliveries;
+    let outside = peer > 31 || message > 63;
     those(&[
         (answer.number == 0 && deliveries == 0, "no delivery"),
         (deliveries == 1, "1 delivery"),
@@ -65,26 +71,23 @@ fn of_forward(answer: &Forwarded, peer: u8) -> Vec<Occurrence> {
         (deliveries == 31, "31 deliveries"),
         (answer.number == 7 && peer > 31, "peer above 31"),
         (answer.number == 7 && peer <= 31, "message above 63"),
+        (answer.number >= 20 && outside, "unsound before a number out of range"),
     ])
 }
 
-/// For 5: which rule is broken, and at which record.
-fn of_unsound(state: &[u8], place: usize) -> Vec<Occurrence> {
-    let fault = Network::parse(state).lowest_unsound().expect("an unsound record").1;
-    let record = match place {
-        0 => "record 0",
-        31 => "record 31",
-        _ => "another record",
-    };
-    vec![once(&format!("{fault:?}")), once(record)]
+/// For 4, with a state of the right length.
+fn of_row_first(state: &[u8]) -> Vec<Occurrence> {
+    let unsound = Network::parse(state).lowest_fault().is_some();
+    those(&[(unsound, "a row before an unsound record")])
 }
 
-fn of_copy(case: &Case, reply: &Reply) -> Vec<Occurrence> {
+/// For a call that reads one buffer and writes another.
+fn of_two(case: &Case, reply: &Reply) -> Vec<Occurrence> {
     let long = |i: usize| case.buffers[i].len() == STATE_SIZE;
     match reply.number() {
         1 if !long(0) => vec![once("1 for the one read")],
         1 => vec![once("1 for the one written")],
-        5 if !long(1) => vec![once("5 before a wrong length to write")],
+        20..=26 if !long(1) => vec![once("unsound before a wrong length to write")],
         _ => Vec::new(),
     }
 }
@@ -109,7 +112,7 @@ fn of_events(events: &[u8], answer: &Answer) -> Vec<Occurrence> {
     }
     let kinds = KINDS.iter().zip(counts).filter(|(_, count)| *count > 0);
     let mut found: Vec<Occurrence> = kinds.map(|(kind, count)| (format!("{kind} accepted"), count)).collect();
-    if answer.number > 5 {
+    if refuses_an_event(answer.number) {
         let code = events[EVENT_SIZE * answer.place];
         found.push(once(&match (answer.number, code) {
             (6, 7) => "code 7".to_string(),
@@ -127,16 +130,16 @@ fn of_events(events: &[u8], answer: &Answer) -> Vec<Occurrence> {
 
 /// What a long list reaches.
 fn of_long(case: &Case, answer: &Answer, tally: &Tally) -> Vec<Occurrence> {
-    let past_5 = answer.number == 0 || answer.number > 5;
+    let begun = answer.number == 0 || refuses_an_event(answer.number);
     those(&[
-        (past_5 && case.buffers[2].iter().all(|byte| *byte == 0), "skips only"),
+        (begun && case.buffers[2].iter().all(|byte| *byte == 0), "skips only"),
         (answer.accepted == 65_535, "exactly 65,535 accepted"),
         (answer.accepted == 65_536, "exactly 65,536 accepted"),
         (answer.accepted > 65_535, "accepted above 65,535"),
         (answer.place > 65_535, "place above 65,535"),
-        (past_5 && tally.produced > 65_535, "produced above 65,535"),
-        (past_5 && tally.forwards > 65_535, "forwards above 65,535"),
-        (past_5 && tally.deliveries > 65_535, "deliveries above 65,535"),
+        (begun && tally.produced > 65_535, "produced above 65,535"),
+        (begun && tally.forwards > 65_535, "forwards above 65,535"),
+        (begun && tally.deliveries > 65_535, "deliveries above 65,535"),
     ])
 }
 
@@ -178,7 +181,7 @@ fn ends_within(case: &Case, budget: u32) -> bool {
 /// What occurred in an input of the run program and in what it should write.
 pub fn of_input(input: &[u8], pieces: &[usize], number: u8, text: &[u8]) -> Vec<Occurrence> {
     let peers = text.iter().filter(|byte| **byte == b'\n').count() - 1;
-    let shown = number == 0 || (6..=16).contains(&number);
+    let shown = number == 0 || refuses_an_event(number);
     those(&[
         (input.is_empty(), "0 bytes"),
         (!pieces.is_empty(), "dripped"),

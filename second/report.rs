@@ -79,7 +79,8 @@ impl Report {
         print!("{:>8}", "number");
         ENTRIES.iter().for_each(|entry| print!("{:>9}", entry.name));
         println!("{:>9}", "all");
-        for number in 0..NUMBERS {
+        let answered = |number: &usize| ENTRIES.iter().any(|entry| entry.numbers.contains(&(*number as u8)));
+        for number in (0..NUMBERS).filter(answered) {
             print!("{number:>8}");
             for (index, entry) in ENTRIES.iter().enumerate() {
                 if entry.numbers.contains(&(number as u8)) {
@@ -100,7 +101,8 @@ impl Report {
             for number in 0..NUMBERS {
                 let count = self.counts[index][number];
                 let can = entry.numbers.contains(&(number as u8));
-                if can && count < entry.least || !can && count > 0 {
+                let least = if number < 20 { entry.least } else { entry.least_unsound };
+                if can && count < least || !can && count > 0 {
                     missing.push(format!("number {number} of {}: {count} times", entry.name));
                 }
             }

@@ -1,6 +1,6 @@
 # The spoilt engines: each is one edit of a file of the stand-in (the model behind the engine's interface).
-# mutants.sh reads this list. NAME, FILE, EXPRESSION for sed, the
-# parts that must find it where it is not any.
+# mutants.sh reads this list: NAME, FILE, EXPRESSION for sed, and the parts that must find it where it is not
+# any.
 
 # 01, "Slips to guard against"
 slip leaver-stays events.rs '/gone.neighbours {/,/^    }/s/network.at_mut(neighbour).neighbours.remove(&peer);//'

@@ -23,7 +23,7 @@ pub fn has_damage(case: usize) -> bool {
 pub fn state(rng: &mut Rng, case: usize) -> (Vec<u8>, Network) {
     if has_damage(case) {
         (damage::state(rng, case / 10), Network::blank())
-    } else if rng.chance(1, 20) {
+    } else if rng.chance(1, 16) {
         (wrong_length(rng, STATE_SIZE), Network::blank())
     } else {
         let network = networks::any(rng);

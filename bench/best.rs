@@ -68,23 +68,23 @@ fn members(mut s: u32) -> impl Iterator<Item = usize> {
 /// The buffer as records; refused by 1.
 fn state(b: &[u8]) -> Result<&State, Refusal> {
     match b.as_chunks() {
-        (records, []) => records.try_into().map_err(|_| (1, 0)),
-        _ => Err((1, 0)),
+        (records, []) => records.try_into().map_err(|_| (1, 0, 0)),
+        _ => Err((1, 0, 0)),
     }
 }
 
 fn state_mut(b: &mut [u8]) -> Result<&mut State, Refusal> {
     match b.as_chunks_mut() {
-        (records, []) => records.try_into().map_err(|_| (1, 0)),
-        _ => Err((1, 0)),
+        (records, []) => records.try_into().map_err(|_| (1, 0, 0)),
+        _ => Err((1, 0, 0)),
     }
 }
 
 /// The table as rows; refused by 2.
 fn rows(b: &[u8]) -> Result<&Rows, Refusal> {
     match b.as_chunks() {
-        (rows, []) => rows.try_into().map_err(|_| (2, 0)),
-        _ => Err((2, 0)),
+        (rows, []) => rows.try_into().map_err(|_| (2, 0, 0)),
+        _ => Err((2, 0, 0)),
     }
 }
 
@@ -97,7 +97,7 @@ fn check_rows(rows: &Rows) -> Result<(), Refusal> {
         return Ok(());
     }
     let place = rows.iter().position(|r| bad(r) != 0);
-    Err((4, place.unwrap_or(0)))
+    Err((4, 0, place.unwrap_or(0)))
 }
 
 #[inline(always)]
@@ -136,7 +136,7 @@ fn fits(n: &State, present: u32, subscribers: &[u32; 32], p: usize) -> bool {
         && long(r, PENDING) & long(r, SEEN) == 0
 }
 
-/// The present peers; refused by 5 and the lowest unsound record.
+/// The present peers; refused by 20 to 26 and the lowest unsound record.
 fn check<F: Form>(n: &State) -> Result<u32, Refusal> {
     let present = presence(n);
     let subscribers = subscribers(n);
@@ -147,17 +147,42 @@ fn check<F: Form>(n: &State) -> Result<u32, Refusal> {
             _ => false,
         };
         if !sound {
-            return Err((5, p));
+            return Err(fault(n, present, &subscribers, p));
         }
     }
     Ok(present)
+}
+
+/// What is wrong with an unsound record: the lowest rule that it breaks, and the lowest neighbour or topic at fault.
+#[cold]
+fn fault(n: &State, present: u32, subscribers: &[u32; 32], p: usize) -> Refusal {
+    let r = &n[p];
+    match word(r, PRESENT) {
+        0 => return (21, 0, p),
+        1 => (),
+        _ => return (20, 0, p),
+    }
+    let near = word(r, NEAR);
+    if near >> p & 1 == 1 {
+        return (22, 0, p);
+    }
+    if near & !present != 0 {
+        return (23, (near & !present).trailing_zeros() as u8, p);
+    }
+    if let Some(q) = members(near).find(|&q| word(&n[q], NEAR) >> p & 1 == 0) {
+        return (24, q as u8, p);
+    }
+    match (0..32).find(|&t| known(r, t) != subscribers[t] & near) {
+        Some(t) => (25, t as u8, p),
+        None => (26, 0, p),
+    }
 }
 
 fn begin<'a, F: Form>(b: &'a mut [u8], table: &'a [u8], events: usize) -> Result<Net<'a, F::Table<'a>>, Refusal> {
     let records = state_mut(b)?;
     let rows = rows(table)?;
     if events % 16 != 0 {
-        return Err((3, 0));
+        return Err((3, 0, 0));
     }
     check_rows(rows)?;
     let present = check::<F>(records)?;
@@ -178,10 +203,10 @@ fn run<F: Form>(b: &mut [u8], table: &[u8], events: &[u8], tally: &mut Tally) ->
     for (place, r) in events.iter().enumerate() {
         let number = net.step(r, tally);
         if number != 0 {
-            return Answer { number, place, accepted: place };
+            return Answer { number, detail: 0, place, accepted: place };
         }
     }
-    Answer { number: 0, place: 0, accepted: events.len() }
+    Answer { number: 0, detail: 0, place: 0, accepted: events.len() }
 }
 
 fn forward<F: Form>(b: &mut [u8], table: &[u8], peer: u8, message: u8) -> Forwarded {
@@ -190,11 +215,11 @@ fn forward<F: Form>(b: &mut [u8], table: &[u8], peer: u8, message: u8) -> Forwar
         Err(refusal) => return Forwarded::refused(refusal),
     };
     if peer > 31 || message > 63 {
-        return Forwarded::refused((7, 0));
+        return Forwarded::refused((7, 0, 0));
     }
     let mut tally = Tally::default();
     let number = net.forward(peer as usize, message as usize, &mut tally);
-    Forwarded { number, place: 0, deliveries: tally.deliveries as u32 }
+    Forwarded { number, detail: 0, place: 0, deliveries: tally.deliveries as u32 }
 }
 
 fn drain<F: Form>(b: &mut [u8], table: &[u8], budget: u32) -> Drained {
@@ -222,7 +247,7 @@ fn image<F: Form>(from: &[u8], to: &mut [u8]) -> Checked {
 fn imaged<F: Form>(from: &[u8], to: &mut [u8]) -> Result<(), Refusal> {
     let n = state(from)?;
     check::<F>(n)?;
-    let image = state_mut(to).map_err(|_| (18, 0))?;
+    let image = state_mut(to).map_err(|_| (18, 0, 0))?;
     write_image(n, image);
     Ok(())
 }

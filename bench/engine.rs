@@ -15,6 +15,7 @@ pub struct Tally {
 #[derive(Clone, Copy, PartialEq, Eq, Debug)]
 pub struct Answer {
     pub number: u8,
+    pub detail: u8,
     pub place: usize,
     pub accepted: usize,
 }
@@ -23,6 +24,7 @@ pub struct Answer {
 #[derive(Clone, Copy, PartialEq, Eq, Debug)]
 pub struct Forwarded {
     pub number: u8,
+    pub detail: u8,
     pub place: usize,
     pub deliveries: u32,
 }
@@ -31,6 +33,7 @@ pub struct Forwarded {
 #[derive(Clone, Copy, PartialEq, Eq, Debug)]
 pub struct Drained {
     pub number: u8,
+    pub detail: u8,
     pub place: usize,
     pub forwards: u32,
     pub rounds: u32,
@@ -41,34 +44,35 @@ pub struct Drained {
 #[derive(Clone, Copy, PartialEq, Eq, Debug)]
 pub struct Checked {
     pub number: u8,
+    pub detail: u8,
     pub place: usize,
 }
 
-/// A number and its place, as every refusal has them.
-pub type Refusal = (u8, usize);
+/// A number, its detail and its place, as every refusal has them.
+pub type Refusal = (u8, u8, usize);
 
 impl Answer {
-    pub fn refused((number, place): Refusal) -> Answer {
-        Answer { number, place, accepted: 0 }
+    pub fn refused((number, detail, place): Refusal) -> Answer {
+        Answer { number, detail, place, accepted: 0 }
     }
 }
 
 impl Forwarded {
-    pub fn refused((number, place): Refusal) -> Forwarded {
-        Forwarded { number, place, deliveries: 0 }
+    pub fn refused((number, detail, place): Refusal) -> Forwarded {
+        Forwarded { number, detail, place, deliveries: 0 }
     }
 }
 
 impl Drained {
-    pub fn refused((number, place): Refusal) -> Drained {
-        Drained { number, place, forwards: 0, rounds: 0, quiet: false }
+    pub fn refused((number, detail, place): Refusal) -> Drained {
+        Drained { number, detail, place, forwards: 0, rounds: 0, quiet: false }
     }
 }
 
 impl Checked {
     pub fn of(result: Result<(), Refusal>) -> Checked {
-        let (number, place) = result.err().unwrap_or((0, 0));
-        Checked { number, place }
+        let (number, detail, place) = result.err().unwrap_or((0, 0, 0));
+        Checked { number, detail, place }
     }
 }
 

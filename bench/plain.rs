@@ -15,8 +15,8 @@ fn long(b: &[u8], at: usize) -> u64 {
     u64::from_le_bytes(b[at..at + 8].try_into().unwrap())
 }
 
-/// Reads a state, or gives the lowest unsound record.
-fn read(b: &[u8]) -> Result<Net, usize> {
+/// Reads a state; refused by 20 to 26 and the lowest unsound record.
+fn read(b: &[u8]) -> Result<Net, Refusal> {
     let mut heads = [0u32; 32];
     let mut n = Net { present: 0, pubs: [0; 32], subs: [0; 32], near: [0; 32], pending: [0; 32], seen: [0; 32], known: [0; 1024] };
     for p in 0..32 {
@@ -42,7 +42,7 @@ fn read(b: &[u8]) -> Result<Net, usize> {
     }
     for p in 0..32 {
         if !sound(&n, heads[p], &subscribers, p) {
-            return Err(p);
+            return Err(fault(&n, heads[p], &subscribers, p));
         }
     }
     Ok(n)
@@ -63,6 +63,31 @@ fn sound(n: &Net, head: u32, subscribers: &[u32; 32], p: usize) -> bool {
         && members(near).all(|q| n.near[q] >> p & 1 == 1)
         && (0..32).all(|t| row[t] == subscribers[t] & near)
         && n.pending[p] & n.seen[p] == 0
+}
+
+/// What is wrong with an unsound record: the lowest rule that it breaks, and the lowest neighbour or topic at fault.
+#[cold]
+fn fault(n: &Net, head: u32, subscribers: &[u32; 32], p: usize) -> Refusal {
+    if head > 1 {
+        return (20, 0, p);
+    }
+    if head == 0 {
+        return (21, 0, p);
+    }
+    let near = n.near[p];
+    if near >> p & 1 == 1 {
+        return (22, 0, p);
+    }
+    if let Some(q) = members(near & !n.present).next() {
+        return (23, q as u8, p);
+    }
+    if let Some(q) = members(near).find(|&q| n.near[q] >> p & 1 == 0) {
+        return (24, q as u8, p);
+    }
+    if let Some(t) = (0..32).find(|&t| n.known[p * 32 + t] != subscribers[t] & near) {
+        return (25, t as u8, p);
+    }
+    (26, 0, p)
 }
 
 fn write(n: &Net, b: &mut [u8]) {
@@ -94,19 +119,19 @@ fn table(b: &[u8]) -> Result<([u8; 64], [u8; 64]), usize> {
     Ok((topics, origins))
 }
 
-/// What a call tests before its own conditions: 1, 2, 3, 4, 5.
+/// What a call tests before its own conditions: 1, 2, 3, 4, 20 to 26.
 fn begin(state: &[u8], tab: &[u8], events: usize) -> Result<(Net, [u8; 64], [u8; 64]), Refusal> {
     if state.len() != 5120 {
-        return Err((1, 0));
+        return Err((1, 0, 0));
     }
     if tab.len() != 256 {
-        return Err((2, 0));
+        return Err((2, 0, 0));
     }
     if events % 16 != 0 {
-        return Err((3, 0));
+        return Err((3, 0, 0));
     }
-    let (topics, origins) = table(tab).map_err(|m| (4, m))?;
-    let n = read(state).map_err(|p| (5, p))?;
+    let (topics, origins) = table(tab).map_err(|m| (4, 0, m))?;
+    let n = read(state)?;
     Ok((n, topics, origins))
 }
 
@@ -116,11 +141,11 @@ pub fn run(state: &mut [u8], tab: &[u8], events: &[u8], tally: &mut Tally) -> An
         Err(refusal) => return Answer::refused(refusal),
     };
     *tally = Tally::default();
-    let mut answer = Answer { number: 0, place: 0, accepted: events.len() / 16 };
+    let mut answer = Answer { number: 0, detail: 0, place: 0, accepted: events.len() / 16 };
     for (place, r) in events.chunks_exact(16).enumerate() {
         let number = n.step(r, &topics, &origins, tally);
         if number != 0 {
-            answer = Answer { number, place, accepted: place };
+            answer = Answer { number, detail: 0, place, accepted: place };
             break;
         }
     }
@@ -135,17 +160,17 @@ pub fn forward(state: &mut [u8], tab: &[u8], peer: u8, message: u8) -> Forwarded
     };
     let (p, m) = (peer as usize, message as usize);
     if p > 31 || m > 63 {
-        return Forwarded::refused((7, 0));
+        return Forwarded::refused((7, 0, 0));
     }
     if !n.here(p) {
-        return Forwarded::refused((8, 0));
+        return Forwarded::refused((8, 0, 0));
     }
     if n.pending[p] >> m & 1 == 0 {
-        return Forwarded::refused((13, 0));
+        return Forwarded::refused((13, 0, 0));
     }
     let deliveries = n.forward(topics[m] as usize, p, m);
     write(&n, state);
-    Forwarded { number: 0, place: 0, deliveries }
+    Forwarded { number: 0, detail: 0, place: 0, deliveries }
 }
 
 pub fn drain(state: &mut [u8], tab: &[u8], budget: u32) -> Drained {
@@ -155,15 +180,15 @@ pub fn drain(state: &mut [u8], tab: &[u8], budget: u32) -> Drained {
     };
     let (forwards, rounds, quiet) = n.drain(&topics, budget);
     write(&n, state);
-    Drained { number: 0, place: 0, forwards, rounds, quiet }
+    Drained { number: 0, detail: 0, place: 0, forwards, rounds, quiet }
 }
 
-/// Refused by 1 or 5.
+/// Refused by 1 or 20 to 26.
 fn open(state: &[u8]) -> Result<Net, Refusal> {
     if state.len() != 5120 {
-        return Err((1, 0));
+        return Err((1, 0, 0));
     }
-    read(state).map_err(|p| (5, p))
+    read(state)
 }
 
 pub fn copy(from: &[u8], to: &mut [u8]) -> Checked {
@@ -173,7 +198,7 @@ pub fn copy(from: &[u8], to: &mut [u8]) -> Checked {
 fn copied(from: &[u8], to: &mut [u8]) -> Result<(), Refusal> {
     let n = open(from)?;
     if to.len() != 5120 {
-        return Err((1, 0));
+        return Err((1, 0, 0));
     }
     write(&n, to);
     Ok(())
@@ -186,7 +211,7 @@ pub fn image(from: &[u8], to: &mut [u8]) -> Checked {
 fn imaged(from: &[u8], to: &mut [u8]) -> Result<(), Refusal> {
     let n = open(from)?;
     if to.len() != 5120 {
-        return Err((18, 0));
+        return Err((18, 0, 0));
     }
     write(&n.image(), to);
     Ok(())

@@ -49,8 +49,8 @@ fn tally(rng: &mut Rng) -> Vec<u8> {
 
 /// For reading, half of the states are damaged.
 fn read_state(rng: &mut Rng, number: usize) -> Vec<u8> {
-    if rng.chance(1, 2) {
-        inputs::damage::state(rng, number)
+    if number % 2 == 0 {
+        inputs::damage::state(rng, number / 2)
     } else {
         inputs::state(rng, number).0
     }
@@ -58,7 +58,7 @@ fn read_state(rng: &mut Rng, number: usize) -> Vec<u8> {
 
 /// The image of a network with messages is worth more than that of one without.
 fn image_state(rng: &mut Rng, number: usize) -> Vec<u8> {
-    if rng.chance(1, 3) {
+    if rng.chance(1, 3) && !inputs::has_damage(number) {
         networks::built(rng).bytes()
     } else {
         inputs::state(rng, number).0
@@ -113,6 +113,7 @@ fn forward(rng: &mut Rng, case: usize) -> (Call, Vec<Vec<u8>>) {
 fn drain(rng: &mut Rng, case: usize) -> (Call, Vec<Vec<u8>>) {
     let sound = |network: Network| (network.bytes(), network);
     let (state, network) = match case % 8 {
+        _ if inputs::has_damage(case) => inputs::state(rng, case),
         0 if case % 64 == 0 => {
             let order = if rng.chance(1, 2) { rng.shuffled(PEERS) } else { (0..PEERS).rev().collect() };
             sound(networks::longest(&order))
@@ -139,12 +140,13 @@ const LENGTHS: [usize; 16] = [
 
 /// "state, then table, then events", cut or prolonged to every length above.
 pub fn program_input(rng: &mut Rng, number: usize) -> Vec<u8> {
-    if number % 100 < LENGTHS.len() {
+    let step = number % 100 / 5;
+    if number % 5 == 0 && step < LENGTHS.len() {
         // A good state and table and nothing but skips, so that only the length can be refused.
         let network = networks::any(rng);
         let mut input = network.bytes();
         input.extend(networks::table(rng, &network));
-        input.resize(LENGTHS[number % 100], 0);
+        input.resize(LENGTHS[step], 0);
         return input;
     }
     let (mut input, network) = inputs::state(rng, number);

@@ -14,7 +14,6 @@
 
 mod cases;
 mod crash;
-mod details;
 mod entries;
 mod flood;
 mod inputs;
@@ -22,6 +21,7 @@ mod lent;
 #[cfg(linked)]
 mod linked;
 mod model;
+mod occurrences;
 mod options;
 mod orders;
 #[cfg(linked)]
@@ -29,6 +29,7 @@ mod pages;
 mod process;
 mod report;
 mod subject;
+mod unsound;
 
 use cases::{make, pieces, program_input, Case};
 use entries::{Part, ENTRIES};
@@ -92,7 +93,7 @@ impl Comparison {
         self.report.count_lent(&lent);
         crash::call();
         let reply = self.subject.answer(case.call, &mut lent)?;
-        self.report.count(part, expected.number(), details::of_call(case, &expected, &after));
+        self.report.count(part, expected.number(), occurrences::of_call(case, &expected, &after));
         Ok(differences(case, (&expected, &after), (&reply, &lent)))
     }
 
@@ -101,8 +102,8 @@ impl Comparison {
         let (answer, expected) = program::output(input);
         crash::call();
         let found = self.subject.program(input, pieces).expect("a run program")?;
-        let details = details::of_input(input, pieces, answer.number, &expected);
-        self.report.count(part, answer.number, details);
+        let occurred = occurrences::of_input(input, pieces, answer.number, &expected);
+        self.report.count(part, answer.number, occurred);
         if found == expected {
             return Ok(Vec::new());
         }
@@ -115,7 +116,7 @@ impl Comparison {
         let drains = ENTRIES.iter().position(|entry| entry.part == Part::Drain).expect("drains");
         match orders::try_input(self.subject.as_mut(), seed.number, drains, number) {
             Ok(forwards) => {
-                self.report.count(part, 0, details::of_orders(forwards));
+                self.report.count(part, 0, occurrences::of_orders(forwards));
                 Vec::new()
             }
             Err(words) => vec![words],

@@ -6,47 +6,38 @@ pub mod long;
 pub mod networks;
 pub mod refusals;
 pub mod rng;
+pub mod several;
 
 use crate::model::events::{Table, TABLE_SIZE};
 use crate::model::state::{Network, STATE_SIZE};
 use rng::Rng;
 
-/// How a case treats one of its lent inputs.
-#[derive(Clone, Copy, PartialEq, Eq)]
-enum Care {
-    Good,
-    Damaged,
-    WrongLength,
+/// Every tenth case has a damaged state: by its number and not by chance, so that each part goes through all
+/// kinds of damage. The numbers keep clear of the other cases that go by theirs.
+pub fn has_damage(case: usize) -> bool {
+    case % 10 == 3
 }
 
-/// Good in most cases, so that a case is seldom refused for two reasons at once, though some are.
-fn care(rng: &mut Rng) -> Care {
-    match rng.below(20) {
-        0 => Care::WrongLength,
-        1 => Care::Damaged,
-        _ => Care::Good,
-    }
-}
-
-/// State bytes: sound, or damaged by the rule that the case's number picks, or of a wrong length. Beside
-/// them the network that they hold if sound, else the blank one, for the choice of the other inputs.
+/// State bytes: sound, or damaged in the way that the case's number picks, or of a wrong length. Beside them
+/// the network that they hold if sound, else the blank one, for the choice of the other inputs.
 pub fn state(rng: &mut Rng, case: usize) -> (Vec<u8>, Network) {
-    match care(rng) {
-        Care::Good => {
-            let network = networks::any(rng);
-            (network.bytes(), network)
-        }
-        Care::Damaged => (damage::state(rng, case), Network::blank()),
-        Care::WrongLength => (wrong_length(rng, STATE_SIZE), Network::blank()),
+    if has_damage(case) {
+        (damage::state(rng, case / 10), Network::blank())
+    } else if rng.chance(1, 16) {
+        (wrong_length(rng, STATE_SIZE), Network::blank())
+    } else {
+        let network = networks::any(rng);
+        (network.bytes(), network)
     }
 }
 
-/// Table bytes that suit the network.
+/// Table bytes that suit the network; damaged or of a wrong length in a few cases, so that a case is seldom
+/// refused for two reasons at once, though some are.
 pub fn table(rng: &mut Rng, network: &Network) -> Vec<u8> {
-    match care(rng) {
-        Care::Good => networks::table(rng, network),
-        Care::Damaged => damage::table(rng),
-        Care::WrongLength => wrong_length(rng, TABLE_SIZE),
+    match rng.below(20) {
+        0 => wrong_length(rng, TABLE_SIZE),
+        1 => damage::table(rng),
+        _ => networks::table(rng, network),
     }
 }
 

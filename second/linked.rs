@@ -13,6 +13,7 @@ use crate::subject::{Call, Reply, Subject};
 #[repr(C)]
 struct CAnswer {
     number: u8,
+    detail: u8,
     place: usize,
     accepted: usize,
 }
@@ -20,6 +21,7 @@ struct CAnswer {
 #[repr(C)]
 struct CForwarded {
     number: u8,
+    detail: u8,
     place: usize,
     deliveries: u32,
 }
@@ -27,6 +29,7 @@ struct CForwarded {
 #[repr(C)]
 struct CDrained {
     number: u8,
+    detail: u8,
     place: usize,
     forwards: u32,
     rounds: u32,
@@ -37,6 +40,7 @@ struct CDrained {
 #[repr(C)]
 struct CChecked {
     number: u8,
+    detail: u8,
     place: usize,
 }
 
@@ -109,19 +113,19 @@ unsafe fn make_call(call: Call, parts: &[(*mut u8, usize)]) -> Result<Reply, Str
         (Call::Copy, [(from, a), (to, b)]) => checked(relay_copy(*from, *a, *to, *b)),
         (Call::Run, [(state, a), (table, b), (events, c), (tally, _)]) => {
             let answer = relay_run(*state, *a, *table, *b, *events, *c, tally.cast());
-            let CAnswer { number, place, accepted } = answer;
-            Reply::Answer(Answer { number, place, accepted })
+            let CAnswer { number, detail, place, accepted } = answer;
+            Reply::Answer(Answer { number, detail, place, accepted })
         }
         (Call::Forward { peer, message }, [(state, a), (table, b)]) => {
             let answer = relay_forward(*state, *a, *table, *b, peer, message);
-            let CForwarded { number, place, deliveries } = answer;
-            Reply::Forwarded(Forwarded { number, place, deliveries })
+            let CForwarded { number, detail, place, deliveries } = answer;
+            Reply::Forwarded(Forwarded { number, detail, place, deliveries })
         }
         (Call::Drain { budget }, [(state, a), (table, b)]) => {
             let answer = relay_drain(*state, *a, *table, *b, budget);
-            let CDrained { number, place, forwards, rounds, quiet } = answer;
+            let CDrained { number, detail, place, forwards, rounds, quiet } = answer;
             let quiet = truth(u64::from(quiet))?;
-            Reply::Drained(Drained { number, place, forwards, rounds, quiet })
+            Reply::Drained(Drained { number, detail, place, forwards, rounds, quiet })
         }
         (Call::Image, [(state, a), (image, b)]) => checked(relay_image(*state, *a, *image, *b)),
         _ => panic!("a call with the wrong number of buffers"),
@@ -129,5 +133,5 @@ unsafe fn make_call(call: Call, parts: &[(*mut u8, usize)]) -> Result<Reply, Str
 }
 
 fn checked(answer: CChecked) -> Reply {
-    Reply::Checked(Checked { number: answer.number, place: answer.place })
+    Reply::Checked(Checked { number: answer.number, detail: answer.detail, place: answer.place })
 }

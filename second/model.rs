@@ -5,12 +5,15 @@
 pub mod calls;
 pub mod events;
 pub mod program;
+pub mod soundness;
 pub mod state;
 
-/// "The answer of a run is a number, a place and the count of accepted events."
+/// "The answer of a run is a number, a place and the count of accepted events." The detail is E1's "lowest
+/// peer or topic at fault (0 otherwise)", here and in every other answer.
 #[derive(Clone, Copy, Debug, PartialEq, Eq)]
 pub struct Answer {
     pub number: u8,
+    pub detail: u8,
     pub place: usize,
     pub accepted: usize,
 }
@@ -27,6 +30,7 @@ pub struct Tally {
 #[derive(Clone, Copy, Debug, PartialEq, Eq)]
 pub struct Forwarded {
     pub number: u8,
+    pub detail: u8,
     pub place: usize,
     pub deliveries: u32,
 }
@@ -35,22 +39,30 @@ pub struct Forwarded {
 #[derive(Clone, Copy, Debug, PartialEq, Eq)]
 pub struct Drained {
     pub number: u8,
+    pub detail: u8,
     pub place: usize,
     pub forwards: u32,
     pub rounds: u32,
     pub quiet: bool,
 }
 
-/// The answer of reading, of writing and of the image: a number and a place.
+/// The answer of reading, of writing and of the image: a number, its detail and a place.
 #[derive(Clone, Copy, Debug, PartialEq, Eq)]
 pub struct Checked {
     pub number: u8,
+    pub detail: u8,
     pub place: usize,
 }
 
-/// A refusal of lent bytes: its number and place in 01's table.
+/// A refusal of lent bytes: its number, detail and place.
 #[derive(Clone, Copy, Debug, PartialEq, Eq)]
 pub struct Refusal {
     pub number: u8,
+    pub detail: u8,
     pub place: usize,
+}
+
+/// Is this the number of a refused event? All others refuse lent bytes.
+pub fn refuses_an_event(number: u8) -> bool {
+    (6..=16).contains(&number)
 }

@@ -16,7 +16,8 @@ mkdir -p "$out"
 . second/build.sh
 
 gate='answers-modulo-65536 reads-beyond-events touches-table touches-refused-state writes-behind-tally leaver-stays
-back-to-seen-orders same-round image-own-pending new-at-origin blames-the-other tally-kept reads-once'
+back-to-seen-orders same-round image-own-pending new-at-origin lowest-rule-first neighbour-by-neighbour highest-topic
+tally-kept reads-once'
 
 wanted='' share=5 ready=''
 while [ $# -gt 0 ]; do

@@ -7,6 +7,7 @@ use crate::crash;
 use crate::entries::Part;
 use crate::inputs::rng::Rng;
 use crate::lent::lend;
+use crate::model::Answer;
 use crate::subject::{tally_of, Call, Reply, Subject};
 
 const RECORD: usize = 160;
@@ -60,7 +61,9 @@ impl Trial<'_> {
         let reply = self.call(Call::Drain { budget }, &mut buffers)?;
         let [after, _] = buffers;
         match reply {
-            Reply::Drained(reply) if reply.number == 0 => Ok((after, reply.forwards, reply.quiet)),
+            Reply::Drained(reply) if (reply.number, reply.detail) == (0, 0) => {
+                Ok((after, reply.forwards, reply.quiet))
+            }
             _ => Err(format!("a drain answers {reply:?}")),
         }
     }
@@ -70,7 +73,9 @@ impl Trial<'_> {
         let reply = self.call(Call::Forward { peer, message }, &mut buffers)?;
         let [after, _] = buffers;
         match reply {
-            Reply::Forwarded(reply) if reply.number == 0 => Ok((after, reply.deliveries)),
+            Reply::Forwarded(reply) if (reply.number, reply.detail) == (0, 0) => {
+                Ok((after, reply.deliveries))
+            }
             _ => Err(format!("the forward of {message} by {peer}, pending there, answers {reply:?}")),
         }
     }
@@ -108,7 +113,7 @@ impl Trial<'_> {
         let mut buffers = [start.to_vec(), self.table.clone(), records, vec![7; 24]];
         let reply = self.call(Call::Run, &mut buffers)?;
         match reply {
-            Reply::Answer(answer) if (answer.number, answer.place, answer.accepted) == (0, 0, made) => (),
+            Reply::Answer(Answer { number: 0, detail: 0, place: 0, accepted }) if accepted == made => (),
             _ => return Err(format!("a run of {made} forwards that can be made answers {reply:?}")),
         }
         demand(buffers[0] == end, || "a run of forwards ends in other bytes than a drain".to_string())?;

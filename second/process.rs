@@ -28,19 +28,19 @@ impl Process {
 
     /// A request is 20 numbers: the call, two arguments, the count of buffers, and for each of four buffers
     /// its whole length, its start, its length and whether it is locked; then the buffers with their
-    /// guards. A reply is 5 numbers: number, place and three more; then the same buffers.
-    fn exchange(&mut self, head: [u64; 20], lent: &mut [Lent]) -> std::io::Result<[u64; 5]> {
+    /// guards. A reply is 6 numbers: number, detail, place and three more; then the same buffers.
+    fn exchange(&mut self, head: [u64; 20], lent: &mut [Lent]) -> std::io::Result<[u64; 6]> {
         let mut request: Vec<u8> = head.iter().flat_map(|number| number.to_le_bytes()).collect();
         lent.iter().for_each(|buffer| request.extend(&buffer.whole));
         self.requests.write_all(&request)?;
         self.requests.flush()?;
-        let mut bytes = [0; 40];
+        let mut bytes = [0; 48];
         self.replies.read_exact(&mut bytes)?;
         for buffer in lent {
             self.replies.read_exact(&mut buffer.whole)?;
         }
         let number = |i: usize| u64::from_le_bytes(bytes[8 * i..8 * i + 8].try_into().expect("8 bytes"));
-        Ok([0, 1, 2, 3, 4].map(number))
+        Ok([0, 1, 2, 3, 4, 5].map(number))
     }
 }
 
@@ -68,16 +68,16 @@ impl Subject for Process {
                 return Err(format!("the engine's process broke down: {error}, {end:?}"));
             }
         };
-        let (number, place) = (reply[0] as u8, reply[1] as usize);
+        let (number, detail, place) = (reply[0] as u8, reply[1] as u8, reply[2] as usize);
         Ok(match call {
-            Call::Check | Call::Copy | Call::Image => Reply::Checked(Checked { number, place }),
-            Call::Run => Reply::Answer(Answer { number, place, accepted: reply[2] as usize }),
+            Call::Check | Call::Copy | Call::Image => Reply::Checked(Checked { number, detail, place }),
+            Call::Run => Reply::Answer(Answer { number, detail, place, accepted: reply[3] as usize }),
             Call::Forward { .. } => {
-                Reply::Forwarded(Forwarded { number, place, deliveries: reply[2] as u32 })
+                Reply::Forwarded(Forwarded { number, detail, place, deliveries: reply[3] as u32 })
             }
             Call::Drain { .. } => {
-                let (forwards, rounds, quiet) = (reply[2] as u32, reply[3] as u32, truth(reply[4])?);
-                Reply::Drained(Drained { number, place, forwards, rounds, quiet })
+                let (forwards, rounds, quiet) = (reply[3] as u32, reply[4] as u32, truth(reply[5])?);
+                Reply::Drained(Drained { number, detail, place, forwards, rounds, quiet })
             }
         })
     }

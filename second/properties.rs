@@ -5,8 +5,9 @@ use crate::inputs::lists::{accepted, Mood};
 use crate::inputs::networks::{any, longest, table};
 use crate::inputs::refusals::refused;
 use crate::inputs::rng::Rng;
+use crate::inputs::several::{plant, SEVERAL};
 use crate::inputs::table_or_zero;
-use crate::model::calls::{drain_network, image_of, round};
+use crate::model::calls::{check, drain_network, image_of, round};
 use crate::model::events::{apply, forward, Event, Table};
 use crate::model::state::{all_messages, all_peers, Message, Network, Peer};
 use std::collections::{BTreeMap, BTreeSet};
@@ -24,12 +25,13 @@ pub fn all() {
     println!("events: sound after each, the tally adds up, the image steps as tabled");
     println!("forwards: one pair fewer each, the end as by chains, the rounds as by their length");
     damage_is_exact(&mut rng);
+    lowest_comes_first(&mut rng);
     longest_drain();
 }
 
 /// "Reading then writing a sound state gives the same bytes, and the reverse."
 fn bytes_and_back(rng: &mut Rng, network: &Network) {
-    assert_eq!(network.lowest_unsound(), None);
+    assert_eq!(network.lowest_fault(), None);
     assert_eq!(Network::parse(&network.bytes()), *network);
     let bytes = rng.bytes(5120);
     assert_eq!(Network::parse(&bytes).bytes(), bytes, "no bit of unsound bytes is lost either");
@@ -43,7 +45,7 @@ fn events_keep_sound(rng: &mut Rng, mut network: Network, table: &Table) {
         let event = Event::parse(&accepted(rng, &network, table, mood)).expect("an event");
         let before = network.clone();
         let deliveries = apply(&mut network, table, &event).expect("an accepted event");
-        assert_eq!(network.lowest_unsound(), None, "sound after {event:?}");
+        assert_eq!(network.lowest_fault(), None, "sound after {event:?}");
         let (more, fewer) = match event {
             Event::Produce(..) => (1, 0),
             Event::Forward(..) => (deliveries as usize, 1),
@@ -150,15 +152,28 @@ fn forwards_reach(rng: &mut Rng, start: &Network, table: &Table) {
 
 /// Each damage breaks its own rule at its own record and nothing else.
 fn damage_is_exact(rng: &mut Rng) {
-    for (rule, fault) in EXACT {
+    for rule in EXACT {
         for case in 0..60 {
             let p = Peer([0, 31, rng.below(32) as u8][case % 3]);
-            let network = exact(rng, rule, p);
-            let faults: Vec<_> = all_peers().filter_map(|q| network.fault(q).map(|why| (q, why))).collect();
+            let (network, fault) = exact(rng, rule, p);
+            let lowest = |q: Peer| network.faults(q).first().map(|why| (q, *why));
+            let faults: Vec<_> = all_peers().filter_map(lowest).collect();
             assert_eq!(faults, [(p, fault)], "{rule:?}");
         }
     }
     println!("soundness: each rule is broken alone, at record 0, 31 and others");
+}
+
+/// What was planted is what is answered: the lowest record, its lowest rule, the lowest at fault.
+fn lowest_comes_first(rng: &mut Rng) {
+    for several in SEVERAL {
+        for case in 0..60 {
+            let p = Peer([0, 31, rng.below(32) as u8][case % 3]);
+            let (network, answer) = plant(rng, several, p);
+            assert_eq!(check(&network.bytes()), answer, "{several:?} at {p:?}");
+        }
+    }
+    println!("soundness: the lowest record, its lowest rule, the lowest at fault, as planted");
 }
 
 /// "At most 2,048 forwards and 32 rounds are ever needed": a line of 32 with 64 messages needs them all.

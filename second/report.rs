@@ -1,8 +1,8 @@
-//! The counts of each part, number and detail, and the differences found.
+//! The counts of each part, number and occurrence, and the differences found.
 
-use crate::details::Detail;
 use crate::entries::{ENTRIES, NUMBERS};
 use crate::lent::{Lent, Place};
+use crate::occurrences::Occurrence;
 use std::collections::BTreeMap;
 use std::time::Duration;
 
@@ -10,8 +10,8 @@ use std::time::Duration;
 pub struct Report {
     /// By part and number: how often it was answered.
     counts: Vec<[u64; NUMBERS]>,
-    /// By part and detail: how often it occurred.
-    details: Vec<BTreeMap<String, u64>>,
+    /// By part: what occurred, and how often.
+    occurred: Vec<BTreeMap<String, u64>>,
     /// By part: the time that it took.
     pub times: Vec<Duration>,
     /// Buffers at the end of a page, at the start of one, between guards; and locked ones.
@@ -26,16 +26,16 @@ impl Report {
         let parts = ENTRIES.len();
         Report {
             counts: vec![[0; NUMBERS]; parts],
-            details: vec![BTreeMap::new(); parts],
+            occurred: vec![BTreeMap::new(); parts],
             times: vec![Duration::ZERO; parts],
             ..Report::default()
         }
     }
 
-    pub fn count(&mut self, part: usize, number: u8, details: Vec<Detail>) {
+    pub fn count(&mut self, part: usize, number: u8, occurred: Vec<Occurrence>) {
         self.counts[part][number as usize] += 1;
-        for (words, times) in details {
-            *self.details[part].entry(words).or_insert(0) += times;
+        for (words, times) in occurred {
+            *self.occurred[part].entry(words).or_insert(0) += times;
         }
     }
 
@@ -64,7 +64,7 @@ impl Report {
     pub fn print(&self, ran: &[bool]) {
         self.print_numbers();
         for (index, entry) in ENTRIES.iter().enumerate().filter(|(index, _)| ran[*index]) {
-            let found = self.details[index].iter();
+            let found = self.occurred[index].iter();
             let listed: Vec<String> = found.map(|(words, count)| format!("{words} {count}")).collect();
             println!("{}: {}", entry.name, listed.join(", "));
         }
@@ -79,7 +79,8 @@ impl Report {
         print!("{:>8}", "number");
         ENTRIES.iter().for_each(|entry| print!("{:>9}", entry.name));
         println!("{:>9}", "all");
-        for number in 0..NUMBERS {
+        let answered = |number: &usize| ENTRIES.iter().any(|entry| entry.numbers.contains(&(*number as u8)));
+        for number in (0..NUMBERS).filter(answered) {
             print!("{number:>8}");
             for (index, entry) in ENTRIES.iter().enumerate() {
                 if entry.numbers.contains(&(number as u8)) {
@@ -92,20 +93,21 @@ impl Report {
         }
     }
 
-    /// Did every part that ran answer each number it can often enough and no other, and did all its details
-    /// occur? Says what is missing.
+    /// Did every part that ran answer each number it can often enough and no other, and did all occur
+    /// that must? Says what is missing.
     pub fn complete(&self, ran: &[bool]) -> bool {
         let mut missing = Vec::new();
         for (index, entry) in ENTRIES.iter().enumerate().filter(|(index, _)| ran[*index]) {
             for number in 0..NUMBERS {
                 let count = self.counts[index][number];
                 let can = entry.numbers.contains(&(number as u8));
-                if can && count < entry.least || !can && count > 0 {
+                let least = if number < 20 { entry.least } else { entry.least_unsound };
+                if can && count < least || !can && count > 0 {
                     missing.push(format!("number {number} of {}: {count} times", entry.name));
                 }
             }
-            let occurred = |words: &str| self.details[index].contains_key(words);
-            let absent = entry.details.iter().copied().flatten().filter(|words| !occurred(words));
+            let occurred = |words: &str| self.occurred[index].contains_key(words);
+            let absent = entry.must_occur.iter().copied().flatten().filter(|words| !occurred(words));
             missing.extend(absent.map(|words| format!("{}: \"{words}\" did not occur", entry.name)));
         }
         missing.iter().for_each(|words| println!("{words}"));

@@ -4,7 +4,7 @@
 #   second/run.sh
 #
 # Status 0 only if the model passes its own test, no case differs, all that must occur occurred, and the
-# comparison finds a dozen spoilt engines.
+# comparison finds the spoilt engines.
 #   second/run.sh --self      compares the model with itself and needs no engine
 #   second/run.sh WORD..      only the comparison, with these words: --seed WORD --case PART NUMBER ..
 # The run program is target/bin/flood. It may be absent only while crates.txt does not list it.

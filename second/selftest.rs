@@ -1,10 +1,12 @@
 //! The model tested alone: A1 to A12 of 01's proved table, 01's example of the run program, the fixed
-//! limits, and then 01's and 00's general statements on seeded networks (properties.rs).
+//! limits, E1's rules (rules.rs), and then 01's and 00's general statements on seeded networks
+//! (properties.rs).
 
 #[allow(dead_code)]
 mod inputs;
 mod model;
 mod properties;
+mod rules;
 
 use model::calls::{check, copy, drain, forward, image, run};
 use model::program::output;
@@ -54,12 +56,12 @@ fn outcome(events: &[Bytes]) -> (Answer, Vec<u8>, Tally) {
 }
 
 fn answer(number: u8, place: usize, accepted: usize) -> Answer {
-    Answer { number, place, accepted }
+    Answer { number, detail: 0, place, accepted }
 }
 
 fn image_bytes(state: &[u8]) -> Vec<u8> {
     let mut bytes = vec![9; 5120];
-    assert_eq!(image(state, &mut bytes), Checked { number: 0, place: 0 });
+    assert_eq!(image(state, &mut bytes), Checked { number: 0, detail: 0, place: 0 });
     bytes
 }
 
@@ -93,7 +95,7 @@ fn proved_table() {
     let produced = expect("A11", &after_h(&[produce(0, 5)]), answer(0, 0, 4));
     for (budget, forwards, rounds, quiet) in [(2048, 3, 3, true), (2, 2, 2, false), (0, 0, 0, false)] {
         let found = drain(&mut produced.clone(), &[0; 256], budget);
-        assert_eq!(found, Drained { number: 0, place: 0, forwards, rounds, quiet }, "A11");
+        assert_eq!(found, Drained { number: 0, detail: 0, place: 0, forwards, rounds, quiet }, "A11");
     }
     let once = [join(0, 0, 1, 0), produce(0, 5), forward_event(0, 5), leave(0)];
     let a12 = [&once[..], &[join(0, 0, 1, 0), produce(0, 5)]].concat();
@@ -144,14 +146,14 @@ fn refusals_in_order() {
         let found = run(&mut lent, table, events, &mut tally);
         assert!(lent == state && tally == before, "untouched");
         assert_eq!(found.accepted, 0);
-        (found.number, found.place)
+        (found.number, found.detail, found.place)
     };
-    assert_eq!(try_run(&unsound[1..], &bad_row[1..], &[0; 15]), (1, 0));
-    assert_eq!(try_run(&unsound, &bad_row[1..], &[0; 15]), (2, 0));
-    assert_eq!(try_run(&unsound, &bad_row, &[0; 15]), (3, 0));
-    assert_eq!(try_run(&unsound, &bad_row, &[9; 16]), (4, 63));
+    assert_eq!(try_run(&unsound[1..], &bad_row[1..], &[0; 15]), (1, 0, 0));
+    assert_eq!(try_run(&unsound, &bad_row[1..], &[0; 15]), (2, 0, 0));
+    assert_eq!(try_run(&unsound, &bad_row, &[0; 15]), (3, 0, 0));
+    assert_eq!(try_run(&unsound, &bad_row, &[9; 16]), (4, 0, 63));
     // Record 1 lists nobody now: its known subscribers are wrong, but record 0 lists it and is the lowest.
-    assert_eq!(try_run(&unsound, &zero_row, &[9; 16]), (5, 0));
+    assert_eq!(try_run(&unsound, &zero_row, &[9; 16]), (24, 1, 0));
     refused_forwards(&good, &unsound, &bad_row);
     refused_copies(&good, &unsound);
     println!("refusals of lent bytes: in 01's order, buffers untouched");
@@ -161,35 +163,35 @@ fn refused_forwards(good: &[u8], unsound: &[u8], bad_row: &[u8]) {
     let zero_row = [0; 256];
     let try_forward = |state: &[u8], table: &[u8], peer, message| {
         let mut lent = state.to_vec();
-        let Forwarded { number, place, deliveries } = forward(&mut lent, table, peer, message);
+        let Forwarded { number, detail, place, deliveries } = forward(&mut lent, table, peer, message);
         assert!(lent == state && deliveries == 0, "untouched");
-        (number, place)
+        (number, detail, place)
     };
-    assert_eq!(try_forward(&unsound[1..], &bad_row[1..], 32, 64), (1, 0));
-    assert_eq!(try_forward(unsound, &bad_row[1..], 32, 64), (2, 0));
-    assert_eq!(try_forward(unsound, bad_row, 32, 64), (4, 63));
-    assert_eq!(try_forward(unsound, &zero_row, 32, 64), (5, 0));
-    assert_eq!(try_forward(good, &zero_row, 32, 5), (7, 0));
-    assert_eq!(try_forward(good, &zero_row, 3, 64), (7, 0));
-    assert_eq!(try_forward(good, &zero_row, 3, 5), (8, 0));
-    assert_eq!(try_forward(good, &zero_row, 1, 5), (13, 0));
+    assert_eq!(try_forward(&unsound[1..], &bad_row[1..], 32, 64), (1, 0, 0));
+    assert_eq!(try_forward(unsound, &bad_row[1..], 32, 64), (2, 0, 0));
+    assert_eq!(try_forward(unsound, bad_row, 32, 64), (4, 0, 63));
+    assert_eq!(try_forward(unsound, &zero_row, 32, 64), (24, 1, 0));
+    assert_eq!(try_forward(good, &zero_row, 32, 5), (7, 0, 0));
+    assert_eq!(try_forward(good, &zero_row, 3, 64), (7, 0, 0));
+    assert_eq!(try_forward(good, &zero_row, 3, 5), (8, 0, 0));
+    assert_eq!(try_forward(good, &zero_row, 1, 5), (13, 0, 0));
     let done = forward(&mut good.to_vec(), &zero_row, 0, 5);
-    assert_eq!(done, Forwarded { number: 0, place: 0, deliveries: 1 });
+    assert_eq!(done, Forwarded { number: 0, detail: 0, place: 0, deliveries: 1 });
 }
 
 fn refused_copies(good: &[u8], unsound: &[u8]) {
-    let untouched = |number, place, call: &dyn Fn(&mut [u8]) -> Checked, length: usize| {
+    let untouched = |number, detail, call: &dyn Fn(&mut [u8]) -> Checked, length: usize| {
         let mut lent = vec![7; length];
-        assert_eq!(call(&mut lent), Checked { number, place });
+        assert_eq!(call(&mut lent), Checked { number, detail, place: 0 });
         assert!(lent.iter().all(|byte| *byte == 7), "untouched");
     };
     untouched(1, 0, &|lent| image(&unsound[1..], lent), 5119);
-    untouched(5, 0, &|lent| image(unsound, lent), 5119);
+    untouched(24, 1, &|lent| image(unsound, lent), 5119);
     untouched(18, 0, &|lent| image(good, lent), 5119);
     untouched(1, 0, &|lent| copy(&unsound[1..], lent), 5120);
-    untouched(5, 0, &|lent| copy(unsound, lent), 5119);
+    untouched(24, 1, &|lent| copy(unsound, lent), 5119);
     untouched(1, 0, &|lent| copy(good, lent), 5121);
-    assert_eq!(check(good), Checked { number: 0, place: 0 });
+    assert_eq!(check(good), Checked { number: 0, detail: 0, place: 0 });
 }
 
 fn main() {
@@ -197,6 +199,7 @@ fn main() {
     example();
     limits_of_the_program();
     refusals_in_order();
+    rules::all(&outcome(&after_h(&[])).1);
     properties::all();
     println!("selftest: all passed");
 }

@@ -8,10 +8,10 @@ typedef unsigned int u32;
 typedef unsigned long u64;
 
 struct tally { u64 produced, forwards, deliveries; };
-struct answer { u8 number; u64 place, accepted; };
-struct forwarded { u8 number; u64 place; u32 deliveries; };
-struct drained { u8 number; u64 place; u32 forwards, rounds; u8 quiet; };
-struct checked { u8 number; u64 place; };
+struct answer { u8 number, detail; u64 place, accepted; };
+struct forwarded { u8 number, detail; u64 place; u32 deliveries; };
+struct drained { u8 number, detail; u64 place; u32 forwards, rounds; u8 quiet; };
+struct checked { u8 number, detail; u64 place; };
 
 struct answer relay_run(u8 *state, u64 a, const u8 *table, u64 b, const u8 *events, u64 c, struct tally *tally);
 struct forwarded relay_forward(u8 *state, u64 a, const u8 *table, u64 b, u8 peer, u8 message);
@@ -63,7 +63,7 @@ static int put(const void *from, u64 count)
 struct lent { u64 whole, start, length, locked; };
 struct head { u64 call, first, second, count; struct lent lent[BUFFERS]; };
 
-static void make_call(const struct head *head, u64 reply[5])
+static void make_call(const struct head *head, u64 reply[6])
 {
     const struct lent *lent = head->lent;
     u8 *x = room[0] + lent[0].start, *y = room[1] + lent[1].start, *z = room[2] + lent[2].start;
@@ -71,19 +71,21 @@ static void make_call(const struct head *head, u64 reply[5])
     if (head->call == 2) {
         struct tally *tally = (struct tally *)(room[3] + lent[3].start);
         struct answer answer = relay_run(x, a, y, b, z, c, tally);
-        reply[0] = answer.number, reply[1] = answer.place, reply[2] = answer.accepted;
+        reply[0] = answer.number, reply[1] = answer.detail, reply[2] = answer.place;
+        reply[3] = answer.accepted;
     } else if (head->call == 3) {
         struct forwarded answer = relay_forward(x, a, y, b, (u8)head->first, (u8)head->second);
-        reply[0] = answer.number, reply[1] = answer.place, reply[2] = answer.deliveries;
+        reply[0] = answer.number, reply[1] = answer.detail, reply[2] = answer.place;
+        reply[3] = answer.deliveries;
     } else if (head->call == 4) {
         struct drained answer = relay_drain(x, a, y, b, (u32)head->first);
-        reply[0] = answer.number, reply[1] = answer.place, reply[2] = answer.forwards;
-        reply[3] = answer.rounds, reply[4] = answer.quiet;
+        reply[0] = answer.number, reply[1] = answer.detail, reply[2] = answer.place;
+        reply[3] = answer.forwards, reply[4] = answer.rounds, reply[5] = answer.quiet;
     } else {
         struct checked answer = head->call == 0 ? relay_check(x, a)
                               : head->call == 1 ? relay_copy(x, a, y, b)
                                                 : relay_image(x, a, y, b);
-        reply[0] = answer.number, reply[1] = answer.place;
+        reply[0] = answer.number, reply[1] = answer.detail, reply[2] = answer.place;
     }
 }
 
@@ -107,7 +109,7 @@ int main(void)
         room[i] = start + PAGE;
     }
     while (get(&head, sizeof head)) {
-        u64 reply[5] = { 0, 0, 0, 0, 0 };
+        u64 reply[6] = { 0, 0, 0, 0, 0, 0 };
         if (head.count > BUFFERS)
             return 1;
         for (u64 i = 0; i < head.count; i++)

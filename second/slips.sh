@@ -1,6 +1,6 @@
 # The spoilt engines: each is one edit of a file of the stand-in (the model behind the engine's interface).
-# mutants.sh reads this list. NAME, FILE, EXPRESSION for sed, the
-# parts that must find it where it is not any.
+# mutants.sh reads this list: NAME, FILE, EXPRESSION for sed, and the parts that must find it where it is not
+# any.
 
 # 01, "Slips to guard against"
 slip leaver-stays events.rs '/gone.neighbours {/,/^    }/s/network.at_mut(neighbour).neighbours.remove(&peer);//'
@@ -19,16 +19,48 @@ slip invents-deliveries events.rs 's/^            deliveries += 1;/            d
 slip invents-rounds calls.rs 's/        if finished {/        if made > 0 {/'
 
 # soundness
-slip first-byte-2 state.rs 's/record.first > 1/record.first > 2/; s/self.first == 1/self.first != 0/'
-slip gap-byte-3 state.rs 's/record.gap != \[0, 0, 0\]/record.gap[..2] != [0, 0]/'
-slip absent-not-blank state.rs 's/(\*record != Record::default())/(record.neighbours.len() > 0)/'
-slip own-neighbour state.rs 's/if record.neighbours.contains(&p) {/if false {/'
-slip neighbour-absent state.rs 's/any(|q| !self.present(\*q))/any(|_| false)/'
-slip not-listed-back state.rs 's/any(|q| !self.at(\*q).neighbours.contains(&p))/any(|_| false)/'
-slip blames-the-other state.rs 's/record.neighbours.iter().any(|q| !self.at(\*q).neighbours.contains(&p))/all_peers().any(|q| self.at(q).neighbours.contains(\&p) \&\& !record.neighbours.contains(\&q))/'
-slip known-last-topic state.rs 's/for topic in all_topics() {$/for topic in all_topics().take(31) {/'
-slip pending-and-seen state.rs 's/!record.pending.is_disjoint(&record.seen)/false/'
-slip highest-unsound state.rs 's/all_peers().find_map(|p| self.fault(p).map(|fault| (p, fault)))/all_peers().filter_map(|p| self.fault(p).map(|fault| (p, fault))).last()/'
+slip still-5 calls.rs 's/number: fault.number(), detail: fault.detail()/number: 5, detail: 0/'
+slip first-byte-2 soundness.rs 's/record.first > 1/record.first > 2/'
+slip gap-byte-3 soundness.rs 's/record.gap != \[0, 0, 0\]/record.gap[..2] != [0, 0]/'
+slip absent-not-blank soundness.rs 's/(\*network.at(p) != Record::default())/(network.at(p).neighbours.len() > 0)/'
+slip own-neighbour soundness.rs 's/network.at(p).neighbours.contains(&p).then_some/false.then_some/'
+slip neighbour-absent soundness.rs 's/find(|q| !network.present(\*\*q))/find(|_| false)/'
+slip odd-neighbour-present state.rs 's/self.first == 1/self.first != 0/'
+slip not-listed-back soundness.rs 's/find(|q| !network.at(\*\*q).neighbours.contains(&p))/find(|_| false)/'
+slip blames-the-other soundness.rs '/^fn not_listed_back/,/^}/s/^    let lowest = .*/    let others: Vec<Peer> = all_peers().filter(|q| network.at(*q).neighbours.contains(\&p)).collect();\n    let lowest = others.iter().find(|q| !network.at(p).neighbours.contains(q));/'
+slip known-last-topic soundness.rs 's/all_topics().find(wrong)/all_topics().take(31).find(wrong)/'
+slip pending-and-seen soundness.rs 's/(!record.pending.is_disjoint(&record.seen))/false/'
+
+# which record, which rule
+slip highest-unsound soundness.rs '/fn lowest_fault/,/^    }/s/all_peers().find_map(\(.*\))$/all_peers().filter_map(\1).last()/'
+slip lowest-rule-first soundness.rs '/fn lowest_fault/,/^    }/s/all_peers().find_map(\(.*\))$/all_peers().filter_map(\1).min_by_key(|(_, fault)| fault.number())/' '--only check'
+slip highest-rule soundness.rs 's/self.faults(p).first()/self.faults(p).last()/'
+slip numbers-23-24 soundness.rs 's/NeighbourAbsent(_) => 23/NeighbourAbsent(_) => 24/; s/NotListedBack(_) => 24/NotListedBack(_) => 23/'
+slip order-20-21 soundness.rs 's/\[first_bytes, absent_not_blank\]/[absent_not_blank, first_bytes]/'
+slip order-20-22 soundness.rs 's/\[first_bytes, own_neighbour,/[own_neighbour, first_bytes,/'
+slip order-22-23 soundness.rs 's/own_neighbour, neighbour_absent,/neighbour_absent, own_neighbour,/'
+slip order-23-24 soundness.rs 's/neighbour_absent, not_listed_back,/not_listed_back, neighbour_absent,/'
+slip order-24-25 soundness.rs 's/not_listed_back, known,/known, not_listed_back,/'
+slip order-25-26 soundness.rs 's/known, pending_and_seen\]/pending_and_seen, known]/'
+slip absent-judged-as-present soundness.rs 's/\[first_bytes, absent_not_blank\]/[first_bytes, own_neighbour, absent_not_blank]/; s/\[Rule; 2\]/[Rule; 3]/'
+slip neighbour-by-neighbour soundness.rs '/^fn neighbour_absent/,/^}/{s/find(|q| !network.present(\*\*q))/find(|q| !network.present(**q) || !network.at(**q).neighbours.contains(\&p))/; s/Fault::NeighbourAbsent(\*q)/if network.present(*q) { Fault::NotListedBack(*q) } else { Fault::NeighbourAbsent(*q) }/}' '--only copy'
+
+# the peer or topic at fault
+slip highest-absent soundness.rs '/^fn neighbour_absent/,/^}/s/neighbours.iter().find/neighbours.iter().rev().find/'
+slip highest-not-listing soundness.rs '/^fn not_listed_back/,/^}/s/neighbours.iter().find/neighbours.iter().rev().find/'
+slip highest-topic soundness.rs 's/all_topics().find(wrong)/all_topics().filter(wrong).last()/' '--only forward'
+slip known-only-missing soundness.rs 's/all_topics().find(wrong)/all_topics().filter(wrong).find(|t| record.known_for(*t).next().is_none()).or(all_topics().find(wrong))/'
+slip detail-of-22 calls.rs 's/detail: fault.detail()/detail: if fault.number() == 22 { peer.0 } else { fault.detail() }/'
+slip detail-of-26 soundness.rs 's/ | Fault::PendingAndSeen => 0/ => 0, Fault::PendingAndSeen => 1/'
+slip detail-of-an-event calls.rs 's/Answer { number, detail: 0, place, accepted: place }/Answer { number, detail: bytes[1], place, accepted: place }/'
+slip detail-of-a-drain calls.rs 's/Drained { number: 0, detail: 0, place: 0, forwards/Drained { number: 0, detail: rounds as u8, place: 0, forwards/'
+without='fn without(answer: Checked) -> CChecked { CChecked(answer.number, 0, answer.place) }'
+slip run-without-detail standin.rs 's/CAnswer(number, detail,/CAnswer(number, 0,/'
+slip forward-without-detail standin.rs 's/CForwarded(number, detail,/CForwarded(number, 0,/'
+slip drain-without-detail standin.rs 's/CDrained(number, detail,/CDrained(number, 0,/'
+slip image-without-detail standin.rs "/^pub unsafe extern \"C\" fn relay_image/,/^}/s/^    checked(/    without(/; \$a $without"
+slip check-without-detail standin.rs "/^pub unsafe extern \"C\" fn relay_check/,/^}/s/^    checked(/    without(/; \$a $without"
+slip copy-without-detail standin.rs "/^pub unsafe extern \"C\" fn relay_copy/,/^}/s/^    checked(/    without(/; \$a $without"
 
 # table and event bytes
 slip topic-32 events.rs 's/row\[0\] >= TOPICS/row[0] > TOPICS/'
@@ -60,18 +92,18 @@ slip tally-kept calls.rs 's/^    \*tally = Tally::default();//'
 slip tally-reset-early calls.rs 's/^    let (mut network, table) = match before_events/    *tally = Tally::default();\n    let (mut network, table) = match before_events/'
 slip accepted-plus-one calls.rs 's/accepted: place }/accepted: place + 1 }/'
 slip order-3-4 calls.rs '/^fn before_events/,/^}/{s/^    events_length(events)?;//; s/^    let table = table_rows(table)?;/    let table = table_rows(table)?;\n    events_length(events)?;/}'
-slip order-4-5 calls.rs '/^fn before_forwards/,/^}/s/^    let table = table_rows(table)?;/    sound(state)?;\n    let table = table_rows(table)?;/'
-slip order-5-7 calls.rs 's/^    let result = before_forwards/    if state.len() == 5120 \&\& table.len() == 256 \&\& peer >= PEERS { return Forwarded { number: 7, place: 0, deliveries: 0 }; }\n    let result = before_forwards/'
+slip order-4-20 calls.rs '/^fn before_forwards/,/^}/s/^    let table = table_rows(table)?;/    sound(state)?;\n    let table = table_rows(table)?;/'
+slip order-20-7 calls.rs 's/^    let result = before_forwards/    if state.len() == 5120 \&\& table.len() == 256 \&\& peer >= PEERS { return Forwarded { number: 7, detail: 0, place: 0, deliveries: 0 }; }\n    let result = before_forwards/'
 slip round-unfinished calls.rs 's/^    (made, true)/    (made, made < budget)/'
 slip quiet-by-budget calls.rs 's/(forwards, rounds, network.pending_pairs().is_empty())/(forwards, rounds, forwards < budget)/'
 slip budget-16-bits calls.rs 's/^    let mut forwards = 0;/    let budget = budget % 65536; let mut forwards = 0;/'
-slip order-5-18 calls.rs '/^pub fn image(/,/^}/s/^    checked(read/    if image.len() != STATE_SIZE { return Checked { number: 18, place: 0 }; }\n    checked(read/'
+slip order-20-18 calls.rs '/^pub fn image(/,/^}/s/^    checked(read/    if image.len() != STATE_SIZE { return Checked { number: 18, detail: 0, place: 0 }; }\n    checked(read/'
 slip image-keeps-links calls.rs 's/^            pubs: record.pubs.clone(),/            pubs: record.pubs.clone(), neighbours: record.neighbours.clone(),/'
 slip copy-clears calls.rs '/^pub fn copy/,/^}/s/^    checked(read/    to.fill(0);\n    checked(read/'
 
 # 16 bits where more are needed
-slip answers-modulo-65536 standin.rs 's/CAnswer(number, place, accepted)/CAnswer(number, place % 65536, accepted % 65536)/' '--only long'
-slip accepted-modulo-65536 standin.rs 's/CAnswer(number, place, accepted)/CAnswer(number, place, accepted % 65536)/' '--only long'
+slip answers-modulo-65536 standin.rs 's/CAnswer(number, detail, place, accepted)/CAnswer(number, detail, place % 65536, accepted % 65536)/' '--only long'
+slip accepted-modulo-65536 standin.rs 's/CAnswer(number, detail, place, accepted)/CAnswer(number, detail, place, accepted % 65536)/' '--only long'
 slip produced-modulo-65536 standin.rs 's/CTally(own.produced, /CTally(own.produced % 65536, /' '--only long'
 slip deliveries-modulo-65536 standin.rs 's/, own.deliveries);/, own.deliveries % 65536);/' '--only long'
 slip stops-at-65536 calls.rs 's/in events.chunks(EVENT_SIZE).enumerate() {/in events.chunks(EVENT_SIZE).enumerate().take(65536) {/' '--only long'
@@ -93,13 +125,14 @@ slip writes-before-state standin.rs '/^pub unsafe extern "C" fn relay_drain/,/^}
 # demand 3 through the engine alone
 slip back-to-seen-orders events.rs 's/if !record.pending.contains(&message) && !record.seen.contains(&message) {/if !record.pending.contains(\&message) {/' '--only orders'
 slip drain-skips-31-orders calls.rs '/^pub fn round(/,/^}/s/^        forward_event(/        if peer.0 == 31 \&\& network.present(Peer(30)) { network.at_mut(peer).pending.remove(\&message); network.at_mut(peer).seen.insert(message); made += 1; continue; }\n        forward_event(/' '--only orders'
-slip forward-not-counted-orders calls.rs 's/            Forwarded { number: 0, place: 0, deliveries }/            Forwarded { number: 0, place: 0, deliveries: deliveries.min(3) }/' '--only orders'
+slip forward-not-counted-orders calls.rs 's/            Forwarded { number: 0, detail: 0, place: 0, deliveries }/            Forwarded { number: 0, detail: 0, place: 0, deliveries: deliveries.min(3) }/' '--only orders'
 
 # the run program
 slip limit-65535 program.rs 's/input.len() > INPUT_LIMIT/input.len() >= INPUT_LIMIT/'
 slip limit-last program.rs 's/    if input.len() > INPUT_LIMIT {/    if input.len() > INPUT_LIMIT + 100_000 {/'
-slip shows-only-done program.rs 's/answer.number == 0 || (6..=16).contains(&answer.number)/answer.number == 0/'
-slip shows-unsound program.rs 's/answer.number == 0 || (6..=16)/answer.number == 0 || (5..=16)/'
+slip shows-only-done program.rs 's/answer.number == 0 || refuses_an_event(answer.number)/answer.number == 0/'
+slip shows-unsound program.rs 's/refuses_an_event(answer.number)/answer.number > 5/'
+slip shows-detail program.rs 's/"FLOOD {} {} {}\\n", answer.number,/"FLOOD {} {} {} {}\\n", answer.number, answer.detail,/'
 slip shows-pubs program.rs 's/record.subs.len()/record.pubs.len()/'
 slip reads-once standin_flood.rs 's/std::io::stdin().read_to_end(&mut input)?;/input.resize(70_000, 0); let count = std::io::stdin().read(\&mut input)?; input.truncate(count);/'
 slip needs-some-input standin_flood.rs 's/^    std::io::stdout()/    if input.is_empty() { return Ok(()); }\n    std::io::stdout()/'

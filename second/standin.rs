@@ -9,16 +9,16 @@ use std::slice::{from_raw_parts, from_raw_parts_mut};
 #[repr(C)]
 pub struct CTally(u64, u64, u64);
 #[repr(C)]
-pub struct CAnswer(u8, usize, usize);
+pub struct CAnswer(u8, u8, usize, usize);
 #[repr(C)]
-pub struct CForwarded(u8, usize, u32);
+pub struct CForwarded(u8, u8, usize, u32);
 #[repr(C)]
-pub struct CDrained(u8, usize, u32, u32, bool);
+pub struct CDrained(u8, u8, usize, u32, u32, bool);
 #[repr(C)]
-pub struct CChecked(u8, usize);
+pub struct CChecked(u8, u8, usize);
 
 fn checked(answer: Checked) -> CChecked {
-    CChecked(answer.number, answer.place)
+    CChecked(answer.number, answer.detail, answer.place)
 }
 
 #[no_mangle]
@@ -36,12 +36,12 @@ pub unsafe extern "C" fn relay_run(
     let events = from_raw_parts(events, events_length);
     let before = Tally { produced: (*tally).0, forwards: (*tally).1, deliveries: (*tally).2 };
     let mut own = before;
-    let Answer { number, place, accepted } = calls::run(state, table, events, &mut own);
+    let Answer { number, detail, place, accepted } = calls::run(state, table, events, &mut own);
     // A tally that stays as it is stays untouched.
     if own != before {
         *tally = CTally(own.produced, own.forwards, own.deliveries);
     }
-    CAnswer(number, place, accepted)
+    CAnswer(number, detail, place, accepted)
 }
 
 #[no_mangle]
@@ -55,8 +55,8 @@ pub unsafe extern "C" fn relay_forward(
 ) -> CForwarded {
     let state = from_raw_parts_mut(state, state_length);
     let table = from_raw_parts(table, table_length);
-    let Forwarded { number, place, deliveries } = calls::forward(state, table, peer, message);
-    CForwarded(number, place, deliveries)
+    let Forwarded { number, detail, place, deliveries } = calls::forward(state, table, peer, message);
+    CForwarded(number, detail, place, deliveries)
 }
 
 #[no_mangle]
@@ -69,8 +69,8 @@ pub unsafe extern "C" fn relay_drain(
 ) -> CDrained {
     let state = from_raw_parts_mut(state, state_length);
     let table = from_raw_parts(table, table_length);
-    let Drained { number, place, forwards, rounds, quiet } = calls::drain(state, table, budget);
-    CDrained(number, place, forwards, rounds, quiet)
+    let Drained { number, detail, place, forwards, rounds, quiet } = calls::drain(state, table, budget);
+    CDrained(number, detail, place, forwards, rounds, quiet)
 }
 
 #[no_mangle]

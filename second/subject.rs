@@ -1,7 +1,7 @@
 //! What is compared: a subject answers calls on lent buffers. The model is one subject, the engine another.
 
 use crate::lent::Lent;
-use crate::model::{calls, program, Answer, Checked, Drained, Forwarded, Tally};
+use crate::model::{calls, program, refuses_an_event, Answer, Checked, Drained, Forwarded, Tally};
 
 /// A call with its plain arguments; its lent buffers go beside it, in the order of the interface.
 #[derive(Clone, Copy, Debug, PartialEq, Eq)]
@@ -40,7 +40,7 @@ impl Call {
 
     /// "all buffers, the tally included, stay untouched": every refusal but that of an event in a run.
     pub fn refused_whole(self, number: u8) -> bool {
-        number != 0 && (self != Call::Run || number <= 5)
+        number != 0 && (self != Call::Run || !refuses_an_event(number))
     }
 }
 
@@ -59,6 +59,15 @@ impl Reply {
             Reply::Answer(reply) => reply.number,
             Reply::Forwarded(reply) => reply.number,
             Reply::Drained(reply) => reply.number,
+        }
+    }
+
+    pub fn detail(&self) -> u8 {
+        match self {
+            Reply::Checked(reply) => reply.detail,
+            Reply::Answer(reply) => reply.detail,
+            Reply::Forwarded(reply) => reply.detail,
+            Reply::Drained(reply) => reply.detail,
         }
     }
 

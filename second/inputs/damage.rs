@@ -1,9 +1,12 @@
 //! Damaged states and tables: every soundness rule at the first, the last and any peer, and rougher harm.
+//! States with several faults are in several.rs.
 
 use super::networks::{any, built, full, link, tie};
 use super::rng::Rng;
+use super::several::{plant, SEVERAL};
 use crate::model::events::TABLE_SIZE;
-use crate::model::state::{all_peers, all_topics, Fault, Message, Network, Peer, Record, Topic};
+use crate::model::soundness::Fault;
+use crate::model::state::{all_peers, all_topics, Message, Network, Peer, Record, Topic};
 
 /// A fault of one record alone, everything else in the network being sound.
 #[derive(Clone, Copy, Debug, PartialEq, Eq)]
@@ -23,21 +26,38 @@ pub enum Exact {
     PendingAndSeen,
 }
 
-pub const EXACT: [(Exact, Fault); 13] = [
-    (Exact::FirstByteOfAbsent, Fault::FirstByte),
-    (Exact::FirstByteOfPresent, Fault::FirstByte),
-    (Exact::GapOfAbsent, Fault::Gap),
-    (Exact::GapOfPresent, Fault::Gap),
-    (Exact::AbsentNotBlank, Fault::AbsentNotBlank),
-    (Exact::OwnNeighbour, Fault::OwnNeighbour),
-    (Exact::NeighbourAbsent, Fault::NeighbourAbsent),
-    (Exact::NotListedBack, Fault::NotListedBack),
-    (Exact::KnownMissing, Fault::Known),
-    (Exact::KnownNotSubscribed, Fault::Known),
-    (Exact::KnownNoNeighbour, Fault::Known),
-    (Exact::KnownSelf, Fault::Known),
-    (Exact::PendingAndSeen, Fault::PendingAndSeen),
+pub const EXACT: [Exact; 13] = [
+    Exact::FirstByteOfAbsent,
+    Exact::FirstByteOfPresent,
+    Exact::GapOfAbsent,
+    Exact::GapOfPresent,
+    Exact::AbsentNotBlank,
+    Exact::OwnNeighbour,
+    Exact::NeighbourAbsent,
+    Exact::NotListedBack,
+    Exact::KnownMissing,
+    Exact::KnownNotSubscribed,
+    Exact::KnownNoNeighbour,
+    Exact::KnownSelf,
+    Exact::PendingAndSeen,
 ];
+
+impl Exact {
+    /// The rule that is broken, where q and t are the peer and the topic at fault.
+    fn fault(self, q: Peer, t: Topic) -> Fault {
+        match self {
+            Exact::FirstByteOfAbsent | Exact::FirstByteOfPresent => Fault::FirstBytes,
+            Exact::GapOfAbsent | Exact::GapOfPresent => Fault::FirstBytes,
+            Exact::AbsentNotBlank => Fault::AbsentNotBlank,
+            Exact::OwnNeighbour => Fault::OwnNeighbour,
+            Exact::NeighbourAbsent => Fault::NeighbourAbsent(q),
+            Exact::NotListedBack => Fault::NotListedBack(q),
+            Exact::KnownMissing | Exact::KnownNotSubscribed => Fault::Known(t),
+            Exact::KnownNoNeighbour | Exact::KnownSelf => Fault::Known(t),
+            Exact::PendingAndSeen => Fault::PendingAndSeen,
+        }
+    }
+}
 
 /// Takes p from every list of neighbours.
 fn unlist(network: &mut Network, p: Peer) {
@@ -47,13 +67,13 @@ fn unlist(network: &mut Network, p: Peer) {
 }
 
 /// Takes a peer out of a network; the known subscribers are tied afterwards.
-fn remove(network: &mut Network, p: Peer) {
+pub fn remove(network: &mut Network, p: Peer) {
     *network.at_mut(p) = Default::default();
     unlist(network, p);
 }
 
 /// A network where p has exactly this fault and no other record has any.
-pub fn exact(rng: &mut Rng, rule: Exact, p: Peer) -> Network {
+pub fn exact(rng: &mut Rng, rule: Exact, p: Peer) -> (Network, Fault) {
     let mut network = if rng.chance(1, 4) { full(rng) } else { built(rng) };
     let q = Peer(((u32::from(p.0) + 1 + rng.below(31)) % 32) as u8);
     let t = Topic(rng.below(32) as u8);
@@ -86,7 +106,7 @@ pub fn exact(rng: &mut Rng, rule: Exact, p: Peer) -> Network {
     }
     tie(&mut network);
     spoil(rng, &mut network, rule, (p, q), t, m);
-    network
+    (network, rule.fault(q, t))
 }
 
 /// Puts the fault into a sound network made ready for it.
@@ -124,7 +144,7 @@ fn spoil(rng: &mut Rng, network: &mut Network, rule: Exact, pair: (Peer, Peer), 
 }
 
 /// One bit somewhere in the record of an absent peer.
-fn leave_something(rng: &mut Rng, record: &mut Record, q: Peer, t: Topic, m: Message) {
+pub fn leave_something(rng: &mut Rng, record: &mut Record, q: Peer, t: Topic, m: Message) {
     match rng.below(6) {
         0 => drop(record.pubs.insert(t)),
         1 => drop(record.subs.insert(t)),
@@ -134,6 +154,9 @@ fn leave_something(rng: &mut Rng, record: &mut Record, q: Peer, t: Topic, m: Mes
         _ => record.learn(t, q),
     }
 }
+
+/// The kinds of `rough`.
+const ROUGH: usize = 14;
 
 /// Harm that may touch several records, or, seldom, leave the state sound.
 fn rough(rng: &mut Rng, kind: usize, p: Peer) -> Vec<u8> {
@@ -157,9 +180,10 @@ fn rough(rng: &mut Rng, kind: usize, p: Peer) -> Vec<u8> {
         7 => bytes[start..start + 160].fill(255),
         8 => bytes[start..start + 160].copy_from_slice(&rng.bytes(160)),
         9 => bytes = rng.bytes(5120),
-        10 => bytes.fill([1, 2, 255][rng.below(3) as usize]),
+        10 => bytes.fill(255),
         11 => bytes.rotate_right(1 + rng.below(5119) as usize),
-        12 => {
+        12 => bytes.fill([1, 2][rng.below(2) as usize]),
+        13 => {
             let other = 160 * rng.below(32) as usize;
             let record = bytes[start..start + 160].to_vec();
             bytes.copy_within(other..other + 160, start);
@@ -170,15 +194,19 @@ fn rough(rng: &mut Rng, kind: usize, p: Peer) -> Vec<u8> {
     bytes
 }
 
-/// A damaged state of the right length. The case's number walks through the rules and the peers.
-pub fn state(rng: &mut Rng, case: usize) -> Vec<u8> {
+/// A damaged state of the right length. The step goes through every kind of damage, each at three peers.
+pub fn state(rng: &mut Rng, step: usize) -> Vec<u8> {
     let any_peer = rng.below(32) as u8;
-    let p = Peer([0, 31, any_peer][case % 3]);
-    let rule = case / 3 % (EXACT.len() + 13);
-    if rule >= EXACT.len() {
-        return rough(rng, rule - EXACT.len(), p);
+    let p = Peer([0, 31, any_peer][step % 3]);
+    let kind = step / 3 % (SEVERAL.len() + EXACT.len() + ROUGH);
+    if kind < SEVERAL.len() {
+        return plant(rng, SEVERAL[kind], p).0.bytes();
     }
-    let mut bytes = exact(rng, EXACT[rule].0, p).bytes();
+    let kind = kind - SEVERAL.len();
+    if kind >= EXACT.len() {
+        return rough(rng, kind - EXACT.len(), p);
+    }
+    let mut bytes = exact(rng, EXACT[kind], p).0.bytes();
     // A second fault at another place in some: the lowest record is the answer.
     if rng.chance(1, 4) {
         bytes[rng.below(5120) as usize] ^= 1 << rng.below(8);

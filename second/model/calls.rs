@@ -5,8 +5,9 @@ use super::state::{all_peers, Message, Network, Peer, Record, MESSAGES, PEERS, S
 use super::{Answer, Checked, Drained, Forwarded, Refusal, Tally};
 use std::collections::BTreeSet;
 
+/// A refusal that names no peer or topic at fault: every one but 23 to 25.
 fn refuse(number: u8, place: usize) -> Refusal {
-    Refusal { number, place }
+    Refusal { number, detail: 0, place }
 }
 
 /// 1: "state isn't 5,120 bytes"
@@ -41,16 +42,18 @@ fn table_rows(table: &[u8]) -> Result<Table, Refusal> {
     Table::parse(table).map_err(|row| refuse(4, row))
 }
 
-/// 5: "state unsound", place "lowest unsound record", for a state of the right length.
+/// 20 to 26, for a state of the right length: the place is the lowest unsound record.
 fn sound(state: &[u8]) -> Result<Network, Refusal> {
     let network = Network::parse(state);
-    match network.lowest_unsound() {
+    match network.lowest_fault() {
         None => Ok(network),
-        Some((peer, _)) => Err(refuse(5, peer.0 as usize)),
+        Some((peer, fault)) => {
+            Err(Refusal { number: fault.number(), detail: fault.detail(), place: peer.0 as usize })
+        }
     }
 }
 
-/// "Reading and writing refuse by 1, then 5, and by nothing else"
+/// Reading and writing refuse by 1, then 20 to 26, and by nothing else.
 pub fn read(state: &[u8]) -> Result<Network, Refusal> {
     state_length(state)?;
     sound(state)
@@ -58,8 +61,8 @@ pub fn read(state: &[u8]) -> Result<Network, Refusal> {
 
 fn checked(result: Result<(), Refusal>) -> Checked {
     match result {
-        Ok(()) => Checked { number: 0, place: 0 },
-        Err(refusal) => Checked { number: refusal.number, place: refusal.place },
+        Ok(()) => Checked { number: 0, detail: 0, place: 0 },
+        Err(Refusal { number, detail, place }) => Checked { number, detail, place },
     }
 }
 
@@ -77,7 +80,7 @@ pub fn copy(from: &[u8], to: &mut [u8]) -> Checked {
     }))
 }
 
-/// "1 to 5 are tested in that order before any event"
+/// 1 to 4, then 20 to 26 are tested in that order before any event.
 fn before_events(state: &[u8], table: &[u8], events: &[u8]) -> Result<(Network, Table), Refusal> {
     state_length(state)?;
     table_length(table)?;
@@ -91,11 +94,11 @@ fn before_events(state: &[u8], table: &[u8], events: &[u8]) -> Result<(Network, 
 pub fn run(state: &mut [u8], table: &[u8], events: &[u8], tally: &mut Tally) -> Answer {
     let (mut network, table) = match before_events(state, table, events) {
         Ok(both) => both,
-        Err(refusal) => return Answer { number: refusal.number, place: refusal.place, accepted: 0 },
+        Err(Refusal { number, detail, place }) => return Answer { number, detail, place, accepted: 0 },
     };
-    // "It starts from zero in each run that gets past 5."
+    // The tally starts from zero in each run that gets past these.
     *tally = Tally::default();
-    let mut answer = Answer { number: 0, place: 0, accepted: 0 };
+    let mut answer = Answer { number: 0, detail: 0, place: 0, accepted: 0 };
     for (place, bytes) in events.chunks(EVENT_SIZE).enumerate() {
         match Event::parse(bytes).and_then(|event| Ok((apply(&mut network, &table, &event)?, event))) {
             Ok((deliveries, event)) => {
@@ -103,7 +106,7 @@ pub fn run(state: &mut [u8], table: &[u8], events: &[u8], tally: &mut Tally) -> 
                 count(tally, &event, deliveries);
             }
             Err(number) => {
-                answer = Answer { number, place, accepted: place };
+                answer = Answer { number, detail: 0, place, accepted: place };
                 break;
             }
         }
@@ -124,7 +127,7 @@ pub fn count(tally: &mut Tally, event: &Event, deliveries: u32) {
     }
 }
 
-/// What forward and drain test alike: 1, 2, 4, 5.
+/// What forward and drain test alike: 1, 2, 4, 20 to 26.
 fn before_forwards(state: &[u8], table: &[u8]) -> Result<(Network, Table), Refusal> {
     state_length(state)?;
     table_length(table)?;
@@ -132,8 +135,8 @@ fn before_forwards(state: &[u8], table: &[u8]) -> Result<(Network, Table), Refus
     Ok((sound(state)?, table))
 }
 
-/// "Called alone on a state, table, peer and message, it refuses by 1, 2, 4, 5, 7, 8, 13 in this order,
-/// place 0 for the last three, buffers untouched."
+/// "Called alone on a state, table, peer and message", it refuses by 1, 2, 4, 20 to 26, 7, 8, 13 in this
+/// order, "place 0 for the last three, buffers untouched."
 pub fn forward(state: &mut [u8], table: &[u8], peer: u8, message: u8) -> Forwarded {
     let result = before_forwards(state, table).and_then(|(mut network, table)| {
         if peer >= PEERS || message >= MESSAGES {
@@ -146,9 +149,9 @@ pub fn forward(state: &mut [u8], table: &[u8], peer: u8, message: u8) -> Forward
     match result {
         Ok((network, deliveries)) => {
             state.copy_from_slice(&network.bytes());
-            Forwarded { number: 0, place: 0, deliveries }
+            Forwarded { number: 0, detail: 0, place: 0, deliveries }
         }
-        Err(refusal) => Forwarded { number: refusal.number, place: refusal.place, deliveries: 0 },
+        Err(Refusal { number, detail, place }) => Forwarded { number, detail, place, deliveries: 0 },
     }
 }
 
@@ -182,15 +185,17 @@ pub fn drain_network(network: &mut Network, table: &Table, budget: u32) -> (u32,
     (forwards, rounds, network.pending_pairs().is_empty())
 }
 
-/// "Refusals 1, 2, 4, 5 as above with counts 0, not quiet, buffers untouched."
+/// Refused as above, "with counts 0, not quiet, buffers untouched."
 pub fn drain(state: &mut [u8], table: &[u8], budget: u32) -> Drained {
     match before_forwards(state, table) {
         Ok((mut network, table)) => {
             let (forwards, rounds, quiet) = drain_network(&mut network, &table, budget);
             state.copy_from_slice(&network.bytes());
-            Drained { number: 0, place: 0, forwards, rounds, quiet }
+            Drained { number: 0, detail: 0, place: 0, forwards, rounds, quiet }
         }
-        Err(Refusal { number, place }) => Drained { number, place, forwards: 0, rounds: 0, quiet: false },
+        Err(Refusal { number, detail, place }) => {
+            Drained { number, detail, place, forwards: 0, rounds: 0, quiet: false }
+        }
     }
 }
 
@@ -213,7 +218,7 @@ pub fn image_of(network: &Network) -> Network {
     image
 }
 
-/// "Refusals 1, 5, 18 in that order leave both buffers untouched; the state is never written."
+/// Refusals 1, 20 to 26, 18 "in that order leave both buffers untouched; the state is never written."
 pub fn image(state: &[u8], image: &mut [u8]) -> Checked {
     checked(read(state).and_then(|network| {
         if image.len() != STATE_SIZE {

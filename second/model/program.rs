@@ -3,7 +3,7 @@
 use super::calls::run;
 use super::events::TABLE_SIZE;
 use super::state::{all_peers, Network, STATE_SIZE};
-use super::{Answer, Tally};
+use super::{refuses_an_event, Answer, Tally};
 
 /// 17: "program only, tested first: input above 65,536 bytes"
 pub const INPUT_LIMIT: usize = 65_536;
@@ -11,7 +11,7 @@ pub const INPUT_LIMIT: usize = 65_536;
 /// The answer, and the state to be shown where there is one: "For 0 and any refused event follows, for
 /// each present peer rising" a line. "input shorter than 5,120 bytes gives 1, shorter than 5,376 gives 2".
 fn outcome(input: &[u8]) -> (Answer, Option<Network>) {
-    let refused = |number| (Answer { number, place: 0, accepted: 0 }, None);
+    let refused = |number| (Answer { number, detail: 0, place: 0, accepted: 0 }, None);
     if input.len() > INPUT_LIMIT {
         return refused(17);
     }
@@ -26,11 +26,12 @@ fn outcome(input: &[u8]) -> (Answer, Option<Network>) {
     let table = &input[STATE_SIZE..STATE_SIZE + TABLE_SIZE];
     let events = &input[STATE_SIZE + TABLE_SIZE..];
     let answer = run(&mut state, table, events, &mut Tally::default());
-    let shown = answer.number == 0 || (6..=16).contains(&answer.number);
+    let shown = answer.number == 0 || refuses_an_event(answer.number);
     (answer, shown.then(|| Network::parse(&state)))
 }
 
-/// "`PEER `, its number, and how many topics it subscribes to, messages are pending, messages seen."
+/// "The run program's first line keeps its three fields", so the detail is not shown. "`PEER `, its number,
+/// and how many topics it subscribes to, messages are pending, messages seen."
 /// "Single spaces; each line ends in one newline."
 pub fn output(input: &[u8]) -> (Answer, Vec<u8>) {
     let (answer, network) = outcome(input);

@@ -1,4 +1,4 @@
-//! Peer records, reading and writing them, and which record is unsound.
+//! Peer records, reading and writing them, sound or not.
 
 use std::collections::{BTreeMap, BTreeSet};
 
@@ -160,19 +160,6 @@ impl Record {
     }
 }
 
-/// Why a record is unsound; the first reason in the order of 01's sentence.
-#[derive(Clone, Copy, Debug, PartialEq, Eq, PartialOrd, Ord)]
-pub enum Fault {
-    FirstByte,
-    Gap,
-    AbsentNotBlank,
-    OwnNeighbour,
-    NeighbourAbsent,
-    NotListedBack,
-    Known,
-    PendingAndSeen,
-}
-
 #[derive(Clone, Debug, PartialEq, Eq)]
 pub struct Network {
     records: Vec<Record>,
@@ -217,46 +204,5 @@ impl Network {
             pairs.extend(self.at(peer).pending.iter().map(|message| (peer, *message)));
         }
         pairs
-    }
-
-    /// "Record p is sound when byte 0 is 0 or 1 and bytes 1-3 are zero; if absent, all its bytes are
-    /// zero; if present: p isn't its own neighbour; each neighbour q is present and lists p; for every
-    /// topic t, the known subscribers are exactly the neighbours subscribed to t; pending and seen share
-    /// no message."
-    pub fn fault(&self, p: Peer) -> Option<Fault> {
-        let record = self.at(p);
-        if record.first > 1 {
-            return Some(Fault::FirstByte);
-        }
-        if record.gap != [0, 0, 0] {
-            return Some(Fault::Gap);
-        }
-        if !record.present() {
-            return (*record != Record::default()).then_some(Fault::AbsentNotBlank);
-        }
-        if record.neighbours.contains(&p) {
-            return Some(Fault::OwnNeighbour);
-        }
-        if record.neighbours.iter().any(|q| !self.present(*q)) {
-            return Some(Fault::NeighbourAbsent);
-        }
-        if record.neighbours.iter().any(|q| !self.at(*q).neighbours.contains(&p)) {
-            return Some(Fault::NotListedBack);
-        }
-        for topic in all_topics() {
-            let subscribers = record.neighbours.iter().filter(|q| self.at(**q).subs.contains(&topic));
-            if !subscribers.eq(record.known_for(topic)) {
-                return Some(Fault::Known);
-            }
-        }
-        if !record.pending.is_disjoint(&record.seen) {
-            return Some(Fault::PendingAndSeen);
-        }
-        None
-    }
-
-    /// The place of number 5: "lowest unsound record".
-    pub fn lowest_unsound(&self) -> Option<(Peer, Fault)> {
-        all_peers().find_map(|p| self.fault(p).map(|fault| (p, fault)))
     }
 }

@@ -4,40 +4,45 @@ use crate::cases::Case;
 use crate::model::calls::round;
 use crate::model::events::{Table, EVENT_SIZE};
 use crate::model::state::{Network, STATE_SIZE};
-use crate::model::{Answer, Forwarded, Tally};
+use crate::model::{refuses_an_event, Answer, Forwarded, Tally};
 use crate::subject::{tally_of, Call, Reply};
+use crate::unsound;
 
 /// The kinds by their codes.
 const KINDS: [&str; 7] = ["skip", "produce", "forward", "subscribe", "unsubscribe", "leave", "join"];
 
-/// A detail and how often it occurred in the case.
-pub type Detail = (String, u64);
+/// What occurred, and how often in the case.
+pub type Occurrence = (String, u64);
 
-fn once(words: &str) -> Detail {
+pub fn once(words: &str) -> Occurrence {
     (words.to_string(), 1)
 }
 
 /// Those that are so, once each.
-fn those(details: &[(bool, &str)]) -> Vec<Detail> {
-    details.iter().filter(|(is_so, _)| *is_so).map(|(_, words)| once(words)).collect()
+pub fn those(occurrences: &[(bool, &str)]) -> Vec<Occurrence> {
+    occurrences.iter().filter(|(is_so, _)| *is_so).map(|(_, words)| once(words)).collect()
 }
 
-/// The details of a call, by what the model answers and the buffers before and after it.
-pub fn of_call(case: &Case, reply: &Reply, after: &[Vec<u8>]) -> Vec<Detail> {
+/// What occurred in a call, by what the model answers and the buffers before and after it.
+pub fn of_call(case: &Case, reply: &Reply, after: &[Vec<u8>]) -> Vec<Occurrence> {
     let mut found = match (case.call, reply) {
-        (Call::Copy, _) => of_copy(case, reply),
+        (Call::Copy, _) => of_two(case, reply),
         (Call::Run, Reply::Answer(answer)) => of_run(case, answer, &after[3]),
-        (Call::Forward { peer, .. }, Reply::Forwarded(answer)) => of_forward(answer, peer),
+        (Call::Forward { peer, message }, Reply::Forwarded(answer)) => of_forward(answer, peer, message),
         (Call::Drain { budget }, _) => of_drain(case, reply, budget),
         (Call::Image, _) if reply.number() == 0 => {
             let hides = seen_pairs(&case.buffers[0]) > seen_pairs(&after[1]);
             vec![once(if hides { "hides a message" } else { "hides none" })]
         }
+        (Call::Image, _) => of_two(case, reply),
         _ => Vec::new(),
     };
     match reply.number() {
-        4 => found.extend(of_row(&case.buffers[1], reply.place())),
-        5 => found.extend(of_unsound(&case.buffers[0], reply.place())),
+        4 => {
+            found.extend(of_row(&case.buffers[1], reply.place()));
+            found.extend(of_row_first(&case.buffers[0]));
+        }
+        20..=26 => found.extend(unsound::of_state(&case.buffers[0], reply)),
         _ => (),
     }
     found
@@ -48,7 +53,7 @@ fn seen_pairs(state: &[u8]) -> u32 {
     seen.map(|byte| byte.count_ones()).sum()
 }
 
-fn of_run(case: &Case, answer: &Answer, tally: &[u8]) -> Vec<Detail> {
+fn of_run(case: &Case, answer: &Answer, tally: &[u8]) -> Vec<Occurrence> {
     let mut found = of_events(&case.buffers[2], answer);
     if case.buffers[2].len() >= 65_535 * EVENT_SIZE {
         found.extend(of_long(case, answer, &tally_of(tally)));
@@ -56,8 +61,9 @@ fn of_run(case: &Case, answer: &Answer, tally: &[u8]) -> Vec<Detail> {
     found
 }
 
-fn of_forward(answer: &Forwarded, peer: u8) -> Vec<Detail> {
+fn of_forward(answer: &Forwarded, peer: u8, message: u8) -> Vec<Occurrence> {
     let deliveries = answer.deliveries;
+    let outside = peer > 31 || message > 63;
     those(&[
         (answer.number == 0 && deliveries == 0, "no delivery"),
         (deliveries == 1, "1 delivery"),
@@ -65,32 +71,29 @@ fn of_forward(answer: &Forwarded, peer: u8) -> Vec<Detail> {
         (deliveries == 31, "31 deliveries"),
         (answer.number == 7 && peer > 31, "peer above 31"),
         (answer.number == 7 && peer <= 31, "message above 63"),
+        (answer.number >= 20 && outside, "unsound before a number out of range"),
     ])
 }
 
-/// For 5: which rule is broken, and at which record.
-fn of_unsound(state: &[u8], place: usize) -> Vec<Detail> {
-    let fault = Network::parse(state).lowest_unsound().expect("an unsound record").1;
-    let record = match place {
-        0 => "record 0",
-        31 => "record 31",
-        _ => "another record",
-    };
-    vec![once(&format!("{fault:?}")), once(record)]
+/// For 4, with a state of the right length.
+fn of_row_first(state: &[u8]) -> Vec<Occurrence> {
+    let unsound = Network::parse(state).lowest_fault().is_some();
+    those(&[(unsound, "a row before an unsound record")])
 }
 
-fn of_copy(case: &Case, reply: &Reply) -> Vec<Detail> {
+/// For a call that reads one buffer and writes another.
+fn of_two(case: &Case, reply: &Reply) -> Vec<Occurrence> {
     let long = |i: usize| case.buffers[i].len() == STATE_SIZE;
     match reply.number() {
         1 if !long(0) => vec![once("1 for the one read")],
         1 => vec![once("1 for the one written")],
-        5 if !long(1) => vec![once("5 before a wrong length to write")],
+        20..=26 if !long(1) => vec![once("unsound before a wrong length to write")],
         _ => Vec::new(),
     }
 }
 
 /// For 4: which row, and which of its bytes is the first that is wrong.
-fn of_row(table: &[u8], place: usize) -> Vec<Detail> {
+fn of_row(table: &[u8], place: usize) -> Vec<Occurrence> {
     let row = &table[4 * place..4 * place + 4];
     let byte = (0..4).find(|i| row[*i] > [31, 31, 0, 0][*i]).expect("a wrong byte");
     let which = match place {
@@ -102,14 +105,14 @@ fn of_row(table: &[u8], place: usize) -> Vec<Detail> {
 }
 
 /// The kinds that were accepted, and what was refused by which number.
-fn of_events(events: &[u8], answer: &Answer) -> Vec<Detail> {
+fn of_events(events: &[u8], answer: &Answer) -> Vec<Occurrence> {
     let mut counts = [0; 7];
     for event in events.chunks(EVENT_SIZE).take(answer.accepted) {
         counts[event[0] as usize] += 1;
     }
     let kinds = KINDS.iter().zip(counts).filter(|(_, count)| *count > 0);
-    let mut found: Vec<Detail> = kinds.map(|(kind, count)| (format!("{kind} accepted"), count)).collect();
-    if answer.number > 5 {
+    let mut found: Vec<Occurrence> = kinds.map(|(kind, count)| (format!("{kind} accepted"), count)).collect();
+    if refuses_an_event(answer.number) {
         let code = events[EVENT_SIZE * answer.place];
         found.push(once(&match (answer.number, code) {
             (6, 7) => "code 7".to_string(),
@@ -126,21 +129,21 @@ fn of_events(events: &[u8], answer: &Answer) -> Vec<Detail> {
 }
 
 /// What a long list reaches.
-fn of_long(case: &Case, answer: &Answer, tally: &Tally) -> Vec<Detail> {
-    let past_5 = answer.number == 0 || answer.number > 5;
+fn of_long(case: &Case, answer: &Answer, tally: &Tally) -> Vec<Occurrence> {
+    let begun = answer.number == 0 || refuses_an_event(answer.number);
     those(&[
-        (past_5 && case.buffers[2].iter().all(|byte| *byte == 0), "skips only"),
+        (begun && case.buffers[2].iter().all(|byte| *byte == 0), "skips only"),
         (answer.accepted == 65_535, "exactly 65,535 accepted"),
         (answer.accepted == 65_536, "exactly 65,536 accepted"),
         (answer.accepted > 65_535, "accepted above 65,535"),
         (answer.place > 65_535, "place above 65,535"),
-        (past_5 && tally.produced > 65_535, "produced above 65,535"),
-        (past_5 && tally.forwards > 65_535, "forwards above 65,535"),
-        (past_5 && tally.deliveries > 65_535, "deliveries above 65,535"),
+        (begun && tally.produced > 65_535, "produced above 65,535"),
+        (begun && tally.forwards > 65_535, "forwards above 65,535"),
+        (begun && tally.deliveries > 65_535, "deliveries above 65,535"),
     ])
 }
 
-fn of_drain(case: &Case, reply: &Reply, budget: u32) -> Vec<Detail> {
+fn of_drain(case: &Case, reply: &Reply, budget: u32) -> Vec<Occurrence> {
     let Reply::Drained(answer) = reply else { return Vec::new() };
     if answer.number != 0 {
         return Vec::new();
@@ -175,10 +178,10 @@ fn ends_within(case: &Case, budget: u32) -> bool {
     }
 }
 
-/// The details of an input of the run program and of what it should write.
-pub fn of_input(input: &[u8], pieces: &[usize], number: u8, text: &[u8]) -> Vec<Detail> {
+/// What occurred in an input of the run program and in what it should write.
+pub fn of_input(input: &[u8], pieces: &[usize], number: u8, text: &[u8]) -> Vec<Occurrence> {
     let peers = text.iter().filter(|byte| **byte == b'\n').count() - 1;
-    let shown = number == 0 || (6..=16).contains(&number);
+    let shown = number == 0 || refuses_an_event(number);
     those(&[
         (input.is_empty(), "0 bytes"),
         (!pieces.is_empty(), "dripped"),
@@ -191,8 +194,8 @@ pub fn of_input(input: &[u8], pieces: &[usize], number: u8, text: &[u8]) -> Vec<
     ])
 }
 
-/// The details of an input whose drain takes so many forwards.
-pub fn of_orders(forwards: u32) -> Vec<Detail> {
+/// What occurred in an input whose drain takes so many forwards.
+pub fn of_orders(forwards: u32) -> Vec<Occurrence> {
     vec![once(match forwards {
         0 => "no forward",
         1..=64 => "1 to 64 forwards",

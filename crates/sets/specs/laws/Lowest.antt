@@ -5,12 +5,11 @@ use Prim.Native.Nat.{ℕ, zero, suc, _-_, _/_, _%_, _^_, _<_}
 use native.Mathlib.Nat.{pow-suc, not-suc-le-zero, le-of-suc-le-suc, zero-lt-suc}
 use native.Mathlib.Omega.{arith}
 use lib.Dec.{eqb}
-use borrow.Author.Tests.{eq-eqb}
 use lib.Pow.{pow-pos}
 use lib.Bits.{bitAnd, and-step, and-self}
 use lib.Count.{trailingZeros, under, trailing-of-zero}
 use Rattle.sets.specs.Set.{has, meet, minus, only, lowest}
-use Rattle.sets.specs.laws.Bools.{clash, ne-eqb, and-eqb}
+use Rattle.sets.specs.laws.Bools.{clash, and-eqb}
 use Rattle.sets.specs.laws.Members.{has-first, has-rest, has-meet, has-none, has-only, half-lt, ext}
 use Rattle.sets.specs.laws.Bounds.{has-in, member-pos}
 use Rattle.sets.specs.Least.{lowestOf}
@@ -63,14 +62,6 @@ pub lowest-lowestOf : (k w : ℕ) → w < 2 ^ k → lowest k w ≡ lowestOf k (h
 lowest-lowestOf k zero h = lowest-none k ∙ sym (lowestOf-none k (has 0) (λ i l. has-none i))
 lowest-lowestOf k (suc w) h =
     sym (lowestOf-is k (has (suc w)) (lowest k (suc w)) (lowest-lt k (suc w) (zero-lt-suc w) h) (lowest-has k (suc w) (zero-lt-suc w) h) (lowest-least k (suc w)))
-
--- It is the width exactly where the set is empty.
-pub lowest-is-none : (k w : ℕ) → w < 2 ^ k → eqb (lowest k w) k ≡ eqb w 0
-lowest-is-none k zero h = eq-eqb _ k (lowest-none k)
-lowest-is-none k (suc w) h =
-    let some : lowest k (suc w) ≡ k → ⊥ = λ e. omega (arith, lowest-lt k (suc w) (zero-lt-suc w) h) in
-    let more : suc w ≡ 0 → ⊥ = λ e. omega arith in
-    ne-eqb some ∙ sym (ne-eqb more)
 
 -- ---- a member that is taken away
 

@@ -1,7 +1,7 @@
 -- THE CLIENT'S PAGE OF THE OTHER ENTRY POINTS' REFUSALS: demand 1 of the minutes, "refused by number with every lent buffer untouched". (The run's is in
 -- specs/RunPage.antt, and which number it is, exactly if what, in specs/StartPage.antt.) Tables and events are lent for reading alone.
 -- How to read it: `x ≡ y`: x is y; `×`: and; `⊎`: or; `→`: then; `→ ⊥`: never, or not: so "the number is not 0" before the arrow, what follows from it
--- behind. `untouched-page`, at the end, proves it for all bytes. Assumes nothing.
+-- behind. `untouched-page` (specs/laws/UntouchedPage.antt) proves it for all bytes. Assumes nothing.
 use mathlib.Core.Path.{_≡_}
 use mathlib.Core.Logic.{_⊎_}
 use mathlib.Core.List.{List}

@@ -8,6 +8,7 @@ mod load;
 mod rows;
 mod rules;
 mod store;
+mod verdict;
 
 ghost use mathlib.Core.Path.{_≡_};
 ghost use Prim.Native.Nat.{_+_, _*_, _<_};
@@ -109,7 +110,7 @@ pub fn read(state: &[u8]) -> Opened
     }
     let heads = load::words(state, 0);
     let network = load::network(state);
-    let verdict = rules::verdict(
+    let verdict = verdict::verdict(
         &heads,
         network.present,
         &network.pubs,
@@ -164,7 +165,7 @@ pub fn open(
     *pending = load::longs(state, 4);
     *seen = load::longs(state, 6);
     load::fill_known(state, &mut *known);
-    let verdict = rules::verdict(
+    let verdict = verdict::verdict(
         &heads,
         present,
         &*pubs,
@@ -248,7 +249,7 @@ pub fn write(n: Network, state: &mut [u8]) -> Checked
         };
     }
     let heads = store::heads(n.present);
-    let verdict = rules::verdict(
+    let verdict = verdict::verdict(
         &heads,
         n.present,
         &n.pubs,

@@ -1,6 +1,5 @@
-// The rules of soundness as code: which rule a record breaks first, which record is the lowest that breaks one, and the detail
-// (specs/Rules.antt; specs/Tests.antt has what is tested in place of a rule).
-use crate::Checked;
+// The rules of soundness as code: which rule a record breaks first, and the lowest peer or topic that breaks one (specs/Rules.antt;
+// specs/Tests.antt has what is tested in place of a rule). The verdict on all records is verdict.rt.
 use crate::Peer;
 use crate::Topic;
 use crate::spot;
@@ -12,7 +11,7 @@ ghost use Rattle.sets.specs.Set.{setOf};
 ghost use Rattle.sets.specs.Any.{all};
 ghost use Rattle.network.specs.declared.Network.{Network};
 ghost use Rattle.network.specs.Network.{withPresent, withPubs, withSubs, withNeighbours, withPending, withSeen, withKnown, withAll};
-ghost use Rattle.network.specs.Rules.{absentFault, presentFault, faultOf, detailOf, verdictBy};
+ghost use Rattle.network.specs.Rules.{absentFault, presentFault, faultOf};
 ghost use Rattle.network.specs.Tests.{subscribersOf, joinedTo, rowEmpty, nearAbsent, listBack, sameAt, rowKnown};
 
 // "A peer is present when byte 0 is 1": the peers whose first word has 1 as its lowest byte.
@@ -74,7 +73,7 @@ fn row_empty(known: &[u32; 1024], p: Peer) -> bool
 }
 
 // The lowest of the peers listed that is absent; 32 where all are present.
-fn near_absent(listed: u32, present: u32) -> u32
+pub(crate) fn near_absent(listed: u32, present: u32) -> u32
     ensures { λ r. ⌜ r ≡ nearAbsent listed present ⌝ }
 {
     let absent = sets::minus32(listed, present);
@@ -85,7 +84,7 @@ fn near_absent(listed: u32, present: u32) -> u32
 }
 
 // The lowest of the peers listed that doesn't list p; 32 where all do.
-fn list_back(neighbours: &[u32; 32], listed: u32, p: Peer) -> u32
+pub(crate) fn list_back(neighbours: &[u32; 32], listed: u32, p: Peer) -> u32
     requires { ⌜ p .0 < 32 ⌝ }
     ensures { λ r. ⌜ r ≡ listBack (now (neighbours .entry)) listed p ⌝ }
 {
@@ -119,7 +118,7 @@ fn row_same(known: &[u32; 1024], subscribers: &[u32; 32], listed: u32, p: Peer) 
 
 // The lowest topic for which the row of p has other subscribers than those among the peers listed; 32 where there is none. It is for
 // the detail alone: a test of the rule asks `row_same`, since the search, inlined, spoils the comparison by vectors.
-fn row_known(known: &[u32; 1024], subscribers: &[u32; 32], listed: u32, p: Peer) -> u32
+pub(crate) fn row_known(known: &[u32; 1024], subscribers: &[u32; 32], listed: u32, p: Peer) -> u32
     requires { ⌜ p .0 < 32 ⌝ }
     ensures { λ r. ⌜ r ≡ rowKnown (now (known .entry)) (now (subscribers .entry)) listed p ⌝ }
 {
@@ -210,7 +209,7 @@ fn present_fault(
 }
 
 // The first rule that p's record breaks, its first word being `head`; 0 where it breaks none.
-fn fault(
+pub(crate) fn fault(
     head: u32,
     p: Peer,
     present: u32,
@@ -243,87 +242,4 @@ fn fault(
         known,
         subscribers,
     )
-}
-
-// The detail that goes with the number of p's fault: the lowest peer or topic at fault for 23 to 25, 0 for the others. It is asked only
-// once a record is known to be at fault.
-fn detail(
-    number: u8,
-    p: Peer,
-    present: u32,
-    subs: &[u32; 32],
-    neighbours: &[u32; 32],
-    known: &[u32; 1024],
-    subscribers: &[u32; 32],
-) -> u8
-    requires { ⌜ (p .0 < 32) × (now subscribers ≡ subscribersOf (now subs)) ⌝ }
-    ensures { λ r. ⌜ ((n : Network) → r ≡ detailOf number (withPresent
-        (withSubs (withNeighbours (withKnown n (now (known .entry))) (now (neighbours .entry))) (now (subs .entry))) present) p) ⌝ }
-{
-    let listed = neighbours[p.0 as usize];
-    if number == 23 {
-        return near_absent(listed, present) as u8;
-    }
-    if number == 24 {
-        return list_back(neighbours, listed, p) as u8;
-    }
-    if number == 25 {
-        return row_known(known, subscribers, listed, p) as u8;
-    }
-    0
-}
-
-// The verdict: the lowest record that breaks a rule, the number of the first rule that it breaks, and the detail; zeros where none does.
-pub(crate) fn verdict<'a>(
-    heads: &'a [u32; 32],
-    present: u32,
-    pubs: &'a [u32; 32],
-    subs: &'a [u32; 32],
-    neighbours: &'a [u32; 32],
-    pending: &'a [u64; 32],
-    seen: &'a [u64; 32],
-    known: &'a [u32; 1024],
-) -> Checked
-    ensures { λ r. ⌜ ((n : Network) → r ≡ verdictBy (λ (p : ℕ). getD (now (heads .entry)) p 0)
-        (withAll n present (now (pubs .entry)) (now (subs .entry)) (now (neighbours .entry)) (now (pending .entry)) (now (seen .entry))
-        (now (known .entry)))) ⌝ }
-{
-    let subscribers = subscribers(subs);
-    let mut p: u8 = 0;
-    while p < 32 {
-        let i = p as usize;
-        let number = fault(
-            heads[i],
-            Peer(p),
-            present,
-            pubs,
-            subs,
-            neighbours,
-            pending,
-            seen,
-            known,
-            &subscribers,
-        );
-        if number != 0 {
-            return Checked {
-                number,
-                detail: detail(
-                    number,
-                    Peer(p),
-                    present,
-                    subs,
-                    neighbours,
-                    known,
-                    &subscribers,
-                ),
-                place: i,
-            };
-        }
-        p += 1;
-    }
-    Checked {
-        number: 0,
-        detail: 0,
-        place: 0,
-    }
 }

@@ -1,4 +1,4 @@
--- `network::rules::detail` meets its contract. Assumes nothing.
+-- `network::verdict::detail` meets its contract. Assumes nothing.
 use borrow.Author.Needs.{needs}
 use mathlib.Core.Path.{_∙_}
 use native.Mathlib.Omega.{arith}
@@ -8,8 +8,8 @@ use Rattle.network.specs.Rules.{nearAt, backAt, knownAt}
 use Rattle.network.specs.laws.Network.{bare}
 use Rattle.network.specs.laws.Faults.{detail-23, detail-24, detail-25, detail-0}
 use Rattle.network.proofs.Tests.{wrong-le, near-is, back-is, known-is}
-use Rattle.network.proofs.rules.detail.Statement.{statement}
-use Rattle.network.proofs.rules.detail.Tie as tie
+use Rattle.network.proofs.verdict.detail.Statement.{statement}
+use Rattle.network.proofs.verdict.detail.Tie as tie
 
 -- the function's start, from where the lowest at fault was found
 abbrev start1 : tie.After-near-absent → tie.Start

@@ -1,4 +1,4 @@
--- `network::rules::verdict` meets its contract. Assumes nothing.
+-- `network::verdict::verdict` meets its contract. Assumes nothing.
 use borrow.Author.Needs.{needs}
 use mathlib.Core.Path.{_≡_}
 use Prim.Native.Nat.{ℕ, _-_, _≤_, _<_}
@@ -8,8 +8,8 @@ use Rattle.network.specs.declared.Network.{Network}
 use Rattle.network.specs.Network.{peer, withPubs, withPending, withSeen, withAll}
 use Rattle.network.specs.Rules.{faultOf}
 use Rattle.network.specs.laws.Faults.{verdict-none, clean-more, verdict-one}
-use Rattle.network.proofs.rules.verdict.Statement.{statement}
-use Rattle.network.proofs.rules.verdict.Tie as tie
+use Rattle.network.proofs.verdict.verdict.Statement.{statement}
+use Rattle.network.proofs.verdict.verdict.Tie as tie
 
 abbrev Inv-loop : tie.InvT-loop
 Inv-loop heads present pubs subs neighbours pending seen known subscribers p₀ p =

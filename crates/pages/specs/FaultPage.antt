@@ -1,6 +1,6 @@
 -- THE CLIENT'S PAGE OF UNSOUND STATES: document 02's E1, "the rule that failed, in 01's order", "the lowest unsound record comes first, then its
 -- lowest rule", "23 to 25 also give the lowest peer or topic at fault (0 otherwise)". `fault-page` (specs/laws/FaultPageLaws.antt) proves it of
--- `relay_check` for all bytes, and `write-page` of writing; specs/StartPage.antt says that run, forward and drain pass this answer on,
+-- `relay_check` for all bytes, `write-page` of writing, and `accident-refused` the last line; specs/StartPage.antt says that run, forward and drain pass this answer on,
 -- specs/UntouchedPage.antt the same of image and copy.
 -- How to read it: `x ≡ y`: x is y; `×`: and; `↔`: exactly if; `→`: then; `→ ⊥`: never, or not. Each line of `Breaks` is one way to break a
 -- rule, with what it asks before the last arrow, and the number and the detail answered behind it. Assumes nothing.
@@ -104,3 +104,9 @@ FaultPage s = Says (RecordKeeps s) (RecordBreaks s) (checkOf s)
 -- writing: what is answered for a network n and a buffer b of 5,120 bytes
 abbrev pub WritePage : Network → List ℕ → Type 0
 WritePage n b = Says (λ (i : ℕ). Keeps n (peer i)) (λ (i : ℕ). Breaks n (peer i)) (writeOf n b)
+
+-- The accident of the minutes: the neighbours "still listed the old desk's subscriptions". A state of which some record knows a subscriber that
+-- doesn't subscribe is accepted by no entry point.
+abbrev pub AccidentRefused : List ℕ → Type 0
+AccidentRefused s =
+    (p : Peer) (t : Topic) (q : Peer) → p .0 < 32 → t .0 < 32 → knows (netOf s) p t q ≡ true → subscribed (netOf s) q t ≡ false → checkOf s .number ≡ 0 → ⊥

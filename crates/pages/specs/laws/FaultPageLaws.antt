@@ -1,7 +1,7 @@
 -- The proof of specs/FaultPage.antt: of one record, of the verdict on all, of reading and of writing. Assumes nothing.
 use mathlib.Core.Path.{_≡_, refl, sym, ap, subst, _∙_}
 use mathlib.Core.Logic.{⊎-elim}
-use mathlib.Core.Bool.{true, false}
+use mathlib.Core.Bool.{Bool, true, false, _&&_, and-false}
 use mathlib.Core.List.{List}
 use Prim.Native.Nat.{ℕ, _+_, _*_, _<_}
 use native.Mathlib.Omega.{arith}
@@ -10,14 +10,14 @@ use lib.Dec.{eqb}
 use lib.ListN.{length, getD}
 use borrow.Author.Tests.{eqb-true, eqb-false}
 use Rattle.sets.specs.Set.{digit}
-use Rattle.sets.specs.laws.Bools.{either}
+use Rattle.sets.specs.laws.Bools.{either, clash}
 use Rattle.sets.specs.laws.Any.{all-no}
 use Rattle.endian.specs.laws.Le.{Bytes, le-4}
 use Rattle.network.specs.declared.Peer.{Peer}
 use Rattle.network.specs.declared.Network.{Network}
 use Rattle.network.specs.declared.Checked.{Checked}
-use Rattle.network.specs.Network.{peer, topic, present, Shaped}
-use Rattle.network.specs.Sound.{Empty}
+use Rattle.network.specs.Network.{peer, topic, present, linked, Shaped}
+use Rattle.network.specs.Sound.{Empty, Sound}
 use Rattle.network.specs.Rules.{ownRight, nearAt, nearRight, backAt, backRight, knownAt, knownRight, apartRight, absentFault, presentFault, faultOf, lowestWrong, detailOf, headOf, checked, faultAs, verdictBy}
 use Rattle.network.specs.State.{word, wordIn, netOf, faultAt, openedBy, openOf, writeOf}
 use Rattle.network.specs.laws.Rules.{faultIn}
@@ -26,10 +26,10 @@ use Rattle.network.specs.laws.RuleLaws.{wrong-some, wrong-there, wrong-below, w
 use Rattle.network.specs.laws.RuleLaws.{back-at, back-holds, back-wrong, back-breaks, back-why, back-yes, known-at, known-holds, known-wrong, known-breaks, known-why, known-yes, apart-why, apart-yes, apart-wrong, apart-breaks}
 use Rattle.network.specs.laws.SoundLaws.{linked-other}
 use Rattle.network.specs.laws.SoundIff.{kept-present, kept-absent}
-use Rattle.network.specs.laws.OpenedSound.{net-shaped, head-is, fault-head-right}
+use Rattle.network.specs.laws.OpenedSound.{net-shaped, head-is, fault-head-right, accepted, opened-sound}
 use Rattle.engine.specs.Alone.{checkOf}
 use Rattle.pages.specs.FaultPage.{LinksKept, Keeps, empty-record, sound-record, Breaks, not-empty, own-neighbour, neighbour-absent, not-listed-back, subscribers-wrong, pending-and-seen}
-use Rattle.pages.specs.FaultPage.{HeadKept, RecordKeeps, RecordBreaks, head, rule, Says, FaultPage, WritePage}
+use Rattle.pages.specs.FaultPage.{HeadKept, RecordKeeps, RecordBreaks, head, rule, Says, FaultPage, WritePage, AccidentRefused}
 
 -- ---- one record of a network
 
@@ -255,3 +255,10 @@ module _ (s : List ℕ) (bytes : Bytes s) where
   pub fault-page : length s ≡ 5120 → FaultPage s
   unfolding checkOf openOf openedBy
   fault-page long = rw long (says judged)
+
+  -- THE THEOREM of the accident: of all bytes.
+  pub accident-refused : AccidentRefused s
+  unfolding checkOf
+  accident-refused p t q bp bt h g z =
+      let sound : Sound (netOf s) = rw (accepted s z .is) at (opened-sound s bytes) in
+      clash h (sound .knows p t q bp bt ∙ ap (λ (x : Bool). linked (netOf s) p q && x) g ∙ and-false (linked (netOf s) p q))

@@ -257,6 +257,11 @@ says 0 'a b has no table; the one at hand stays: every message has topic 0 and o
 done: 0 events accepted, nothing pending' 'save "a b" "#""t"\nload "a b" # "as it was\n'
 [ -s "a b" ] && [ -s '#"t' ]
 verdict $? "a name in quotes may have spaces"
+cp flight.state "in flight"
+says 1 'standard input:1: in flight is a state without its table, and desks in it have message 5; load both: load "in flight" TABLE' \
+    'load "in flight"\n'
+echo "relay: an argument isn't text" >want
+gives 2 want "$relay" explain $'\377'
 says 2 'standard input:1: the quote before `a b` is never closed' 'load "a b\n'
 
 # Output that is lost is said, and has a status of its own; a reader that has gone away is not worth a word.
@@ -300,6 +305,9 @@ TEXT
 printf 'relay> ' >>want
 printf '%s\n' 'join 0 pubs 0' 'jion 1' 'produce 0 5' 'save "a b"' 'forward 0 5' undo undo 'load "a b"' 'produce 0 5' undo quit skip >typed
 gives 0 want "$relay" -i <typed
+printf '%s\n' 'join 0 pubs 0' 'produce 0 5' skip undo drain undo 'events undone' | "$relay" -i >undone.out
+printf 'join 0 pubs 0\nproduce 0 5\n' >want
+gives 0 want "$relay" decode undone
 cat records records >twice
 printf 'run twice\nundo\n' | "$relay" -i | grep -q 'taken back: run twice; 0 peers present, nothing pending$'
 verdict $? "a run that is refused on its way is taken back whole"

@@ -33,9 +33,12 @@ const STDIN: &str = "standard input";
 const FAULTS_SAID: usize = 20;
 
 fn main() -> ExitCode {
-    let arguments: Vec<String> = std::env::args().skip(1).collect();
+    let arguments: Vec<String> = std::env::args_os().skip(1).map(|word| word.to_string_lossy().into()).collect();
     let words: Vec<&str> = arguments.iter().map(String::as_str).collect();
     let done = match words[..] {
+        _ if words.iter().any(|word| word.contains(char::REPLACEMENT_CHARACTER)) => {
+            Err(Trouble::Text("relay: an argument isn't text".into()))
+        }
         ["--help" | "-h" | "help"] => print(HELP),
         ["--version"] => print(concat!("relay ", env!("CARGO_PKG_VERSION"), "\n")),
         ["encode", "--expand", script, file] => encode::expand(script, file),

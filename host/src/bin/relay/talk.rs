@@ -142,7 +142,7 @@ mod tests {
     fn lines_are_taken_back_one_by_one() {
         let lines =
             b"table 8 topic 1 origin 0\njoin 0 pubs 0\nproduce 0 5\nshow message 5\nforward 0 6\ndrain\nblank\n\
-            undo\nundo # the drain\ntally\nundo\nUNDO\nundo\nundo\n";
+            undo\nundo # the drain\ntally\nundo\nforward 0 6\nUNDO\nundo\nundo\n";
         let want = [
             "message 8 (topic 1, origin 0): nobody has it",
             "join 0 pubs 0: 1 peer present, linked to none",
@@ -156,6 +156,7 @@ mod tests {
             "taken back: drain; 1 peer present, 1 pair pending",
             "tally of the events: 1 produced, 0 forwards, 0 deliveries",
             "taken back: produce 0 5; 1 peer present, nothing pending",
+            "forward 0 6 is refused: message not pending at this peer (13, event 1); pending at peer 0: none",
             "taken back: join 0 pubs 0; 0 peers present, nothing pending",
             "taken back: table 8 topic 1 origin 0; 0 peers present, nothing pending",
             "there is nothing to take back",

@@ -91,7 +91,7 @@ echo "$room/none can't be read: No such file or directory (os error 2)" >"$room/
 gives 2 "$room/explained" "$relay" explain "$room/none"
 
 # Text to records and back, and a state through files.
-examples=$PWD/examples docs=$PWD/docs
+examples=$PWD/examples docs=$PWD/docs host=$PWD/host
 cd "$room" || exit 2
 cat >lines <<'LINES'
 join 0 pubs 0
@@ -157,16 +157,18 @@ cp state kept
 [ $? -eq 2 ] && cmp state kept && grep -q "kept can't be written" full.out && [ -z "$(ls kept.* 2>/dev/null)" ]
 verdict $? "a write that fails leaves the old file"
 ln -s kept linked
-printf 'save linked\n' | "$relay" >link.out && [ -L linked ] && [ "$(wc -c <kept)" -eq 5120 ] && ! cmp -s state kept
+printf 'save linked\n' | "$relay" >link.out && [ -L linked ] && [ "$(wc -c <kept)" -eq 5376 ] && ! cmp -s -n 5120 state kept
 verdict $? "a link is written where it points"
-says 2 "standard input:1: state and table can't be saved to one file, one" 'save one one\n'
+for one in one ./one; do
+    says 2 "standard input:1: two names are for two files, and one is one; it can hold both: save one" "save one $one\\n"
+done
 says 1 "standard input:3: the row of a message that desks have can't change; message 5 (topic 0, origin 0): pending at 0, seen by nobody" \
     'join 0 pubs 0\nproduce 0 5\ntable 5 topic 1 origin 0\n'
 printf 'run records\nsave state.run table.run\nload state table\nsave state.load table.load\n' | "$relay" >run.out
 same state state.run "records run as the lines do"
 same state state.load "load and save keep a state"
 same table table.load "load and save keep a table"
-printf 'load image\nsave image.load\n' | "$relay" >image.out
+printf 'load image\nsave image.load image.table\n' | "$relay" >image.out
 same image image.load "an image is a state without links"
 printf 'run records\nrun records\n' | "$relay" >twice.out 2>&1
 grep -q '^standard input:2: records: join 0 pubs 0 is refused: joining peer already present (9, event 0)$' twice.out
@@ -181,6 +183,9 @@ verdict $? "decode refuses a cut file"
 verdict $? "pictures have every peer and link"
 { grep -B 99 '^forward' "$examples/first.relay"; echo 'picture first.svg message 5'; } | "$relay" >first.out
 same "$docs/first.svg" first.svg "the picture of docs/HOST.md"
+
+# shellcheck source=host/test-tool.sh
+. "$host/test-tool.sh" || exit 2
 
 if [ "$wrong" -ne 0 ]; then
     echo "host: $wrong of $tried checks went wrong"

@@ -59,7 +59,11 @@ pub struct Words<'a> {
 impl<'a> Words<'a> {
     /// The words of a line without its comment: a word that begins with `#` ends the line.
     pub fn of_line(line: &'a str) -> Words<'a> {
-        let words: Vec<&str> = line.split_whitespace().take_while(|word| !word.starts_with('#')).collect();
+        Words::of_words(line.split_whitespace().take_while(|word| !word.starts_with('#')).collect())
+    }
+
+    /// The words of a line that has been taken apart.
+    pub fn of_words(words: Vec<&'a str>) -> Words<'a> {
         Words { words: words.into_iter().peekable(), form: "" }
     }
 

@@ -1,5 +1,6 @@
 //! The commands of the tool, and how a line of text becomes one.
 
+use crate::pieces::pieces;
 use relay_host::refusal::NUMBERS;
 use relay_host::text::{plain, TextError, Words, FORMS};
 use relay_host::{Event, Message, Reason, Row, ENOUGH};
@@ -16,6 +17,7 @@ pub enum Command {
     Tally,
     Picture(String, Option<Message>),
     Dot(String, Option<Message>),
+    /// A state and its table, in one file or two.
     Load(String, Option<String>),
     Save(String, Option<String>),
     Run(String),
@@ -26,7 +28,7 @@ pub enum Command {
 }
 
 /// The commands beside the events, with their forms.
-const OTHERS: [(&str, &str); 15] = [
+const OTHERS: [(&str, &str); 17] = [
     ("refused", "refused NUMBER EVENT"),
     ("table", "table MESSAGE topic TOPIC origin PEER"),
     ("drain", "drain [BUDGET]"),
@@ -35,13 +37,15 @@ const OTHERS: [(&str, &str); 15] = [
     ("tally", "tally"),
     ("picture", "picture FILE.svg [message MESSAGE]"),
     ("dot", "dot FILE [message MESSAGE]"),
-    ("load", "load STATE [TABLE]"),
-    ("save", "save STATE [TABLE]"),
+    ("load", "load FILE, or load STATE TABLE"),
+    ("save", "save FILE, or save STATE TABLE"),
     ("run", "run FILE"),
     ("events", "events FILE"),
     ("blank", "blank"),
     ("say", "say WORDS"),
     ("help", "help"),
+    ("undo", "undo"),
+    ("quit", "quit"),
 ];
 
 fn fail<T>(message: String) -> Result<T, TextError> {
@@ -51,14 +55,15 @@ fn fail<T>(message: String) -> Result<T, TextError> {
 impl Command {
     /// The command of a line; none for an empty line or a comment.
     pub fn of_line(line: &str) -> Result<Option<Command>, TextError> {
-        let mut words = Words::of_line(line);
-        let Some(name) = words.take() else {
-            return Ok(None);
-        };
-        if name.eq_ignore_ascii_case("say") {
+        if let Some(name) = line.split_whitespace().next().filter(|name| name.eq_ignore_ascii_case("say")) {
             let said = line.trim().strip_prefix(name).unwrap_or_default();
             return Ok(Some(Command::Say(plain(said.trim()))));
         }
+        let pieces = pieces(line)?;
+        let mut words = Words::of_words(pieces.iter().map(String::as_str).collect());
+        let Some(name) = words.take() else {
+            return Ok(None);
+        };
         if let Some(event) = words.event(name)? {
             return Ok(Some(Command::Event(event)));
         }
@@ -88,6 +93,7 @@ fn other(name: &str, words: &mut Words) -> Result<Command, TextError> {
         "run" => Command::Run(file(words)?),
         "events" => Command::Events(file(words)?),
         "blank" => Command::Blank,
+        "undo" | "quit" => return fail(format!("`{name}` is for interactive use (relay -i), alone on its line")),
         _ => Command::Help,
     })
 }
@@ -204,6 +210,8 @@ mod tests {
         assert_eq!(command("picture a.svg message 5"), Command::Picture("a.svg".into(), five));
         assert_eq!(command("load s"), Command::Load("s".into(), None));
         assert_eq!(command("save s t"), Command::Save("s".into(), Some("t".into())));
+        assert_eq!(command("save \"my s\" # \"t"), Command::Save("my s".into(), None));
+        assert_eq!(command("say \"so"), Command::Say("\"so".into()));
         assert_eq!(command("say  what # it is "), Command::Say("what # it is".into()));
         assert_eq!(command("refused 8 skip"), Command::Refused(Reason::PeerAbsent, Event::Skip));
     }
@@ -221,7 +229,10 @@ mod tests {
         }
         assert_eq!(message("refused 8 show"), "`show` is no event");
         assert_eq!(message("show 5"), "`5` is too much: show [message MESSAGE]");
-        assert_eq!(message("load"), "the file is missing: load STATE [TABLE]");
+        assert_eq!(message("load"), "the file is missing: load FILE, or load STATE TABLE");
+        assert_eq!(message("load \"a b"), "the quote before `a b` is never closed");
+        assert_eq!(message("undo"), "`undo` is for interactive use (relay -i), alone on its line");
+        assert_eq!(message("exit"), "there is no command `exit`; is it `quit`?");
         assert!(message("picture a.png").contains("doesn't end in .svg"));
     }
 }

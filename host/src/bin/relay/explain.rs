@@ -1,11 +1,11 @@
 //! What a number means and what to do about it, in the words of docs/RULES.md; and what is wrong with a state file.
 
 use crate::session::Trouble;
-use crate::{files, words};
+use crate::{files, keep, words};
 use relay_host::fault;
 use relay_host::refusal::NUMBERS;
 use relay_host::text::plain;
-use relay_host::Network;
+use relay_host::{Network, Table};
 use std::io::Write;
 
 const RULES: &str = include_str!("../../../../docs/RULES.md");
@@ -24,7 +24,7 @@ pub fn explain(word: &str, out: &mut dyn Write) -> Result<(), Trouble> {
     if word.bytes().all(|byte| byte.is_ascii_digit()) {
         return explain_number(word, out);
     }
-    explain_state(word, &files::read(word)?, out)
+    explain_file(word, &files::read(word)?, out)
 }
 
 fn explain_number(word: &str, out: &mut dyn Write) -> Result<(), Trouble> {
@@ -36,16 +36,19 @@ fn explain_number(word: &str, out: &mut dyn Write) -> Result<(), Trouble> {
     }
 }
 
-/// Says whether a state is sound; if not, which rule it breaks and where, what that means and what to do.
-fn explain_state(name: &str, state: &[u8], out: &mut dyn Write) -> Result<(), Trouble> {
-    let refusal = match Network::read(state) {
-        Ok(network) => {
-            let (present, pending) = (words::peers(network.desks().count()), words::pending(network.pending_pairs()));
-            return Ok(writeln!(out, "{} is sound: {present}, {pending}", plain(name))?);
+/// Says whether a state is sound; if not, which rule it breaks and where, what that means and what to do. So of its table, if that
+/// is in the file.
+fn explain_file(name: &str, bytes: &[u8], out: &mut dyn Write) -> Result<(), Trouble> {
+    let (state, table) = keep::parts(bytes);
+    let (said, refusal) = match (Network::read(state), table.map(Table::read)) {
+        (Err(refusal), _) => (fault::in_words(state, &refusal), refusal),
+        (_, Some(Err(refusal))) => (format!("its table: {refusal}"), refusal),
+        (Ok(network), table) => {
+            let end = if table.is_some() { "; its table is with it" } else { "" };
+            return Ok(writeln!(out, "{} is sound: {}{end}", plain(name), words::overview(&network))?);
         }
-        Err(refusal) => refusal,
     };
-    writeln!(out, "{} is refused: {}", plain(name), fault::in_words(state, &refusal))?;
+    writeln!(out, "{} is refused: {said}", plain(name))?;
     if let Some((_, text)) = paragraph(refusal.reason.number()) {
         writeln!(out, "{text}")?;
     }
@@ -98,15 +101,30 @@ mod tests {
 
     #[test]
     fn a_state_is_sound_or_its_fault_is_told_with_the_rule() {
-        let (text, status) = said(|out| explain_state("a", &[0; 5120], out));
+        let (text, status) = said(|out| explain_file("a", &[0; 5120], out));
         assert_eq!((text.as_str(), status), ("a is sound: 0 peers present, nothing pending\n", 0));
         let mut state = [0; 5120];
         state[160 * 31] = 2;
-        let (text, status) = said(|out| explain_state("a", &state, out));
+        let (text, status) = said(|out| explain_file("a", &state, out));
         let first = "a is refused: presence byte or zero bytes (20, record 31): byte 0 is 2, expected 0 or 1\n";
         assert_eq!((text, status), (format!("{first}{}\n", paragraph(20).unwrap().1), 1));
-        let (text, status) = said(|out| explain_state("a", &state[1..], out));
+        let (text, status) = said(|out| explain_file("a", &state[1..], out));
         let first = "a is refused: state isn't 5,120 bytes (1): found 5119\n";
         assert_eq!((text, status), (format!("{first}{}\n", paragraph(1).unwrap().1), 1));
+    }
+
+    #[test]
+    fn a_table_behind_a_state_is_judged_as_well() {
+        let (text, status) = said(|out| explain_file("a", &[0; 5376], out));
+        assert_eq!(
+            (text.as_str(), status),
+            ("a is sound: 0 peers present, nothing pending; its table is with it\n", 0)
+        );
+        let mut both = [0; 5376];
+        both[5375] = 1;
+        let (text, status) = said(|out| explain_file("a", &both, out));
+        let meaning = Reason::TableRow.meaning();
+        let first = format!("a is refused: its table: {meaning} (4, row 63)\n");
+        assert_eq!((text, status), (format!("{first}{}\n", paragraph(4).unwrap().1), 1));
     }
 }

@@ -11,40 +11,87 @@ pub fn read(name: &str) -> Result<Vec<u8>, Trouble> {
 }
 
 pub fn write(name: &str, bytes: &[u8]) -> Result<(), Trouble> {
-    replace(Path::new(name), bytes).map_err(|error| Trouble::Text(format!("{name} can't be written: {error}")))
+    write_all(&[(name, bytes)])
 }
 
-/// Do two names stand for one file? Files that are not there yet are told apart by their names.
+/// Writes several files, each whole. None takes its place before all are complete, so that they stay fit for each other.
+pub fn write_all(files: &[(&str, &[u8])]) -> Result<(), Trouble> {
+    let unwritten = |name: &str, error| Trouble::Text(format!("{name} can't be written: {error}"));
+    let mut drafts = Vec::new();
+    for &(name, bytes) in files {
+        drafts.push((name, Draft::of(Path::new(name), bytes).map_err(|error| unwritten(name, error))?));
+    }
+    // What is written as it is can still fail, and so comes first.
+    drafts.sort_by_key(|(_, draft)| draft.beside.is_some());
+    for (name, draft) in drafts {
+        draft.settle().map_err(|error| unwritten(name, error))?;
+    }
+    Ok(())
+}
+
+/// Do two names stand for one file, whether it is there yet or not?
 pub fn same(one: &str, other: &str) -> bool {
-    match (fs::canonicalize(one), fs::canonicalize(other)) {
-        (Ok(one), Ok(other)) => one == other,
-        _ => one == other,
+    full(Path::new(one)) == full(Path::new(other))
+}
+
+/// A file's full name, by that of its folder if the file isn't there.
+fn full(name: &Path) -> PathBuf {
+    let folder = match name.parent() {
+        Some(folder) if !folder.as_os_str().is_empty() => folder,
+        _ => Path::new("."),
+    };
+    match (fs::canonicalize(name), fs::canonicalize(folder), name.file_name()) {
+        (Ok(full), _, _) => full,
+        (_, Ok(folder), Some(file)) => folder.join(file),
+        _ => name.into(),
     }
 }
 
-/// A pipe or a device is written as it is; a link to a file keeps pointing there; a file keeps its permissions.
-fn replace(name: &Path, bytes: &[u8]) -> io::Result<()> {
-    let old = fs::metadata(name).ok();
-    if old.as_ref().is_some_and(|old| !old.is_file()) {
-        return fs::write(name, bytes);
-    }
-    let target = fs::canonicalize(name).unwrap_or_else(|_| name.to_path_buf());
-    let draft = beside(&target);
-    let done = complete(&draft, bytes).and_then(|()| match &old {
-        Some(old) => fs::set_permissions(&draft, old.permissions()),
-        None => Ok(()),
-    });
-    let done = done.and_then(|()| fs::rename(&draft, &target));
-    if done.is_err() {
-        let _ = fs::remove_file(&draft);
-    }
-    done
+/// Bytes that are to take the place of a file's. What has no place yet when it is dropped is removed.
+struct Draft<'a> {
+    target: PathBuf,
+    bytes: &'a [u8],
+    /// Where they stand until then; nowhere if the target is a pipe or a device, which is written as it is.
+    beside: Option<PathBuf>,
 }
 
-fn complete(draft: &Path, bytes: &[u8]) -> io::Result<()> {
-    let mut file = File::create_new(draft)?;
-    file.write_all(bytes)?;
-    file.sync_all()
+impl<'a> Draft<'a> {
+    /// A link to a file keeps pointing there; a file keeps its permissions.
+    fn of(name: &Path, bytes: &'a [u8]) -> io::Result<Draft<'a>> {
+        let old = fs::metadata(name).ok();
+        if old.as_ref().is_some_and(fs::Metadata::is_dir) {
+            return Err(io::Error::other("it is a folder"));
+        }
+        let target = fs::canonicalize(name).unwrap_or_else(|_| name.to_path_buf());
+        if old.as_ref().is_some_and(|old| !old.is_file()) {
+            return Ok(Draft { target, bytes, beside: None });
+        }
+        let beside = beside(&target);
+        let mut file = File::create_new(&beside)?;
+        let draft = Draft { target, bytes, beside: Some(beside) };
+        file.write_all(bytes)?;
+        file.sync_all()?;
+        if let Some(old) = old {
+            file.set_permissions(old.permissions())?;
+        }
+        Ok(draft)
+    }
+
+    fn settle(self) -> io::Result<()> {
+        match &self.beside {
+            Some(beside) => fs::rename(beside, &self.target),
+            None => fs::write(&self.target, self.bytes),
+        }
+    }
+}
+
+impl Drop for Draft<'_> {
+    fn drop(&mut self) {
+        if let Some(beside) = &self.beside {
+            // One that has taken its place is no longer there.
+            let _ = fs::remove_file(beside);
+        }
+    }
 }
 
 /// A name in the same folder that no other run of the tool uses at the same time.

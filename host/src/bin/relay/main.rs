@@ -1,21 +1,27 @@
 //! The command-line tool: a relay network as plain text, on the proved engine. `relay --help` explains it.
 //!
-//! `command` reads a line, `session` does what it says, `show` and `words` put it into words, `explain` says what a number
-//! means and what is wrong with a state, `picture` draws, `files` reads and writes.
+//! `pieces` takes a line apart and `command` reads it, `session` does what it says, `show` and `words` put it into words, `talk` is for
+//! lines as they are typed, `encode` makes event records of a script and `drains` a drain's forwards, `explain` says what a number
+//! means and what is wrong with a state, `picture` draws, `keep` has states with their tables, `files` reads and writes.
 
 mod command;
+mod drains;
+mod encode;
 mod explain;
 mod files;
+mod keep;
 mod picture;
+mod pieces;
 mod session;
 mod show;
+mod talk;
+mod trouble;
 mod words;
 
 use command::Command;
-use relay_host::event::{decode_all, Event};
 use relay_host::text::plain;
-use session::{Named, Session, Trouble};
-use std::io::{self, BufRead, IsTerminal, Read, Write};
+use session::{Session, Trouble};
+use std::io::{self, IsTerminal, Read, Write};
 use std::process::ExitCode;
 
 const HELP: &str = include_str!("help.txt");
@@ -27,28 +33,32 @@ const STDIN: &str = "standard input";
 const FAULTS_SAID: usize = 20;
 
 fn main() -> ExitCode {
-    let arguments: Vec<String> = std::env::args().skip(1).collect();
+    let arguments: Vec<String> = std::env::args_os().skip(1).map(|word| word.to_string_lossy().into()).collect();
     let words: Vec<&str> = arguments.iter().map(String::as_str).collect();
     let done = match words[..] {
+        _ if words.iter().any(|word| word.contains(char::REPLACEMENT_CHARACTER)) => {
+            Err(Trouble::Text("relay: an argument isn't text".into()))
+        }
         ["--help" | "-h" | "help"] => print(HELP),
         ["--version"] => print(concat!("relay ", env!("CARGO_PKG_VERSION"), "\n")),
-        ["encode", script, file] => encode(script, file),
-        ["decode", file] => decode(file),
+        ["encode", "--expand", script, file] => encode::expand(script, file),
+        ["encode", script, file] if script != "--expand" => encode::encode(script, file),
+        ["decode", file] => encode::decode(file),
         ["explain", word] => explain::explain(word, &mut io::stdout().lock()),
-        [] | ["-v"] if io::stdin().is_terminal() => {
-            talk(&mut io::stdin().lock(), &mut io::stdout().lock(), !words.is_empty())
-        }
+        ["-i"] => talk::talk(&mut io::stdin().lock(), &mut io::stdout().lock()),
+        [] | ["-v"] if io::stdin().is_terminal() => talk::talk(&mut io::stdin().lock(), &mut io::stdout().lock()),
         [] | ["-"] => run(STDIN, false),
         ["-v"] | ["-v", "-"] => run(STDIN, true),
         ["-v", script] if !script.starts_with('-') => run(script, true),
         [script] if !script.starts_with('-') => run(script, false),
         _ => Err(Trouble::Text(misused(&words))),
     };
-    match done {
+    match done.and_then(|()| Ok(io::stdout().flush()?)) {
         Ok(()) => ExitCode::SUCCESS,
         Err(trouble) => {
             if !trouble.message().is_empty() {
-                eprintln!("{}", plain_lines(trouble.message()));
+                // Where standard error is lost as well, the status has to say it.
+                let _ = writeln!(io::stderr(), "{}", plain_lines(trouble.message()));
             }
             ExitCode::from(trouble.status())
         }
@@ -57,7 +67,7 @@ fn main() -> ExitCode {
 
 /// What to say of arguments that have no meaning.
 fn misused(words: &[&str]) -> String {
-    const KNOWN: [&str; 5] = ["-v", "-h", "--help", "--version", "-"];
+    const KNOWN: [&str; 7] = ["-v", "-i", "-h", "--help", "--version", "--expand", "-"];
     match words.iter().find(|word| word.starts_with('-') && !KNOWN.contains(word)) {
         Some(option) => format!("relay: there is no option {option}; relay --help shows those there are"),
         None => "relay: these words make no sense together; relay --help shows what does".into(),
@@ -81,7 +91,7 @@ type Script = Vec<(usize, Command)>;
 fn read_script(name: &str) -> Result<Script, Trouble> {
     let mut bytes = Vec::new();
     if name == STDIN {
-        io::stdin().read_to_end(&mut bytes)?;
+        io::stdin().read_to_end(&mut bytes).map_err(unreadable)?;
     } else {
         bytes = files::read(name)?;
     }
@@ -106,6 +116,10 @@ fn read_script(name: &str) -> Result<Script, Trouble> {
     Err(Trouble::Text(faults.join("\n")))
 }
 
+fn unreadable(error: io::Error) -> Trouble {
+    Trouble::Text(format!("{STDIN} can't be read: {error}"))
+}
+
 /// A script's bytes as text, without the mark that some editors put first. What isn't text is named by its line and byte.
 fn text_of<'a>(name: &str, bytes: &'a [u8]) -> Result<&'a str, Trouble> {
     let text = std::str::from_utf8(bytes).map_err(|error| {
@@ -128,90 +142,9 @@ fn run(name: &str, aloud: bool) -> Result<(), Trouble> {
     Ok(())
 }
 
-/// Runs lines as they are typed; trouble costs the line only.
-fn talk(input: &mut dyn BufRead, out: &mut dyn Write, aloud: bool) -> Result<(), Trouble> {
-    let mut session = Session::new(aloud);
-    writeln!(out, "A blank network. `help` lists the commands; an end of file (Ctrl-D) ends this.")?;
-    loop {
-        write!(out, "relay> ")?;
-        out.flush()?;
-        let mut line = Vec::new();
-        if input.read_until(b'\n', &mut line)? == 0 {
-            writeln!(out)?;
-            return Ok(());
-        }
-        let command = match String::from_utf8(line) {
-            Ok(line) => Command::of_line(&line).map_err(|error| Trouble::Text(error.to_string())),
-            Err(_) => Err(Trouble::Text("this line isn't text".into())),
-        };
-        let done = match command {
-            Ok(Some(command)) => session.execute(&command, out),
-            Ok(None) => Ok(()),
-            Err(trouble) => Err(trouble),
-        };
-        if let Err(trouble) = done {
-            writeln!(out, "{}", plain_lines(trouble.message()))?;
-        }
-    }
-}
-
-/// Writes a script's events since its last `blank` or `load` as records. Nothing is run. Refused at the first line that records
-/// can't say.
-fn encode(script: &str, file: &str) -> Result<(), Trouble> {
-    let mut records = Vec::new();
-    let mut named = Named::default();
-    let mut lost = None;
-    for (line, command) in read_script(script)? {
-        let why = match command {
-            Command::Event(event) => {
-                records.extend(event.encode());
-                named.note(&event);
-                None
-            }
-            Command::Drain(_) | Command::Run(_) => Some("this line changes the network and is no event"),
-            Command::Table(message, _) if named.has(message) => Some("events before this line name this message"),
-            Command::Blank | Command::Load(..) => {
-                (records, named, lost) = Default::default();
-                None
-            }
-            _ => None,
-        };
-        lost = lost.or(why.map(|why| (line, why)));
-    }
-    match lost {
-        None => files::write(file, &records),
-        Some((line, why)) => Err(Trouble::Text(format!("{why}, so event records can't say it")).at(script, line)),
-    }
-}
-
-/// Prints a record file as text, up to the first record that is no event.
-fn decode(file: &str) -> Result<(), Trouble> {
-    let (events, refusal) = decode_all(&files::read(file)?);
-    let lines: Vec<String> = events.iter().map(Event::to_string).collect();
-    let mut out = io::stdout().lock();
-    for line in lines {
-        writeln!(out, "{line}")?;
-    }
-    match refusal {
-        None => Ok(()),
-        Some(refusal) => Err(Trouble::Refused(format!("{file}: {refusal}"))),
-    }
-}
-
 #[cfg(test)]
 mod tests {
     use super::*;
-
-    #[test]
-    fn a_bad_line_costs_that_line_only() {
-        let mut input: &[u8] = b"join 0\n\xff\xfe\njoin \x1b[2J\nshow\n";
-        let mut out = Vec::new();
-        assert!(talk(&mut input, &mut out, false).is_ok());
-        let out = String::from_utf8(out).unwrap();
-        assert!(out.contains("this line isn't text"), "{out}");
-        assert!(out.contains("`\\u{1b}[2J` is no peer number"), "{out}");
-        assert!(out.contains("1 peer present"), "{out}");
-    }
 
     #[test]
     fn what_is_not_text_is_named_by_line_and_byte() {

@@ -1,82 +1,21 @@
 //! A network under work: what each command does.
 
 use crate::command::Command;
-use crate::{files, picture, show, words, HELP};
+use crate::encode::Named;
+pub use crate::trouble::Trouble;
+use crate::{drains, files, keep, picture, show, words, HELP};
 use relay_host::event::{Event, RECORD};
-use relay_host::fault;
 use relay_host::text::plain;
-use relay_host::{Message, Network, Reason, Refusal, Row, Set, Table, Tally};
-use std::io::{self, Write};
-
-/// Why a command could not be done.
-pub enum Trouble {
-    /// An event, a state or a change was refused.
-    Refused(String),
-    /// The text or a file can't be used.
-    Text(String),
-}
-
-impl Trouble {
-    pub fn message(&self) -> &str {
-        match self {
-            Trouble::Refused(message) | Trouble::Text(message) => message,
-        }
-    }
-
-    /// The status that the tool ends with.
-    pub fn status(&self) -> u8 {
-        match self {
-            Trouble::Refused(_) => 1,
-            Trouble::Text(_) => 2,
-        }
-    }
-
-    /// The same trouble with the script's name and line.
-    pub fn at(self, name: &str, line: usize) -> Trouble {
-        let placed = |message| format!("{name}:{line}: {message}");
-        match self {
-            Trouble::Refused(message) => Trouble::Refused(placed(message)),
-            Trouble::Text(message) => Trouble::Text(placed(message)),
-        }
-    }
-}
-
-/// Trouble with the standard streams. A reader that has gone away is not worth a word.
-impl From<io::Error> for Trouble {
-    fn from(error: io::Error) -> Trouble {
-        match error.kind() {
-            io::ErrorKind::BrokenPipe => Trouble::Text(String::new()),
-            _ => Trouble::Text(format!("relay: {error}")),
-        }
-    }
-}
-
-/// The messages that events have named.
-pub struct Named(Set<Message>);
-
-impl Default for Named {
-    fn default() -> Named {
-        Named(Set::empty())
-    }
-}
-
-impl Named {
-    pub fn note(&mut self, event: &Event) {
-        if let Event::Produce(_, message) | Event::Forward(_, message) = event {
-            self.0.insert(*message);
-        }
-    }
-
-    pub fn has(&self, message: Message) -> bool {
-        self.0.has(message)
-    }
-}
+use relay_host::{Message, Network, Reason, Refusal, Row, Table, Tally};
+use std::io::Write;
 
 pub struct Session {
     network: Network,
     table: Table,
-    /// The accepted events since the start, as records.
+    /// The accepted events of the session, as records.
     records: Vec<u8>,
+    /// Where those since the last `blank` or `load` begin. What follows is about these.
+    start: usize,
     /// Their tally.
     tally: Tally,
     /// The messages that they name.
@@ -85,6 +24,20 @@ pub struct Session {
     unsaid: Option<&'static str>,
     /// Tell each event?
     aloud: bool,
+    /// Are a drain's forwards among the events?
+    expand: bool,
+}
+
+/// How a session stands: all that a line can change.
+#[derive(PartialEq)]
+pub struct Standing {
+    network: Network,
+    table: Table,
+    records: usize,
+    start: usize,
+    tally: Tally,
+    named: Named,
+    unsaid: Option<&'static str>,
 }
 
 impl Session {
@@ -93,11 +46,44 @@ impl Session {
             network: Network::blank(),
             table: Table::zero(),
             records: Vec::new(),
+            start: 0,
             tally: Tally::default(),
             named: Named::default(),
             unsaid: None,
             aloud,
+            expand: false,
         }
+    }
+
+    /// A session that takes a drain for the forwards that it makes.
+    pub fn expanding() -> Session {
+        Session { expand: true, ..Session::new(false) }
+    }
+
+    pub fn standing(&self) -> Standing {
+        Standing {
+            network: self.network.clone(),
+            table: self.table.clone(),
+            records: self.records.len(),
+            start: self.start,
+            tally: self.tally,
+            named: self.named.clone(),
+            unsaid: self.unsaid,
+        }
+    }
+
+    /// Goes back to how the session stood before.
+    pub fn go_back(&mut self, before: Standing) {
+        self.records.truncate(before.records);
+        Standing {
+            network: self.network,
+            table: self.table,
+            records: _,
+            start: self.start,
+            tally: self.tally,
+            named: self.named,
+            unsaid: self.unsaid,
+        } = before;
     }
 
     /// Does what a command says, and writes what there is to say.
@@ -118,11 +104,11 @@ impl Session {
             Command::Dot(file, message) => {
                 files::write(file, picture::dot(&self.network, &self.table, *message).as_bytes())?
             }
-            Command::Load(state, table) => self.load(state, table.as_deref())?,
-            Command::Save(state, table) => self.save(state, table.as_deref())?,
+            Command::Load(file, other) => self.load(file, other.as_deref(), out)?,
+            Command::Save(file, other) => keep::write(&self.network, &self.table, file, other.as_deref())?,
             Command::Run(file) => self.run(file, out)?,
             Command::Events(file) => self.write_events(file)?,
-            Command::Blank => *self = Session::new(self.aloud),
+            Command::Blank => self.blank(out)?,
             Command::Say(said) => writeln!(out, "{said}")?,
             Command::Help => write!(out, "{HELP}")?,
         }
@@ -134,8 +120,23 @@ impl Session {
         words::summary(self.accepted(), self.network.pending_pairs())
     }
 
+    /// The network in one line.
+    pub fn overview(&self) -> String {
+        words::overview(&self.network)
+    }
+
+    /// Who has a message, in one line.
+    pub fn message(&self, message: Message) -> String {
+        words::message(&self.network, &self.table, message)
+    }
+
     fn accepted(&self) -> usize {
-        self.records.len() / RECORD
+        self.records().len() / RECORD
+    }
+
+    /// The accepted events since the last `blank` or `load`.
+    fn records(&self) -> &[u8] {
+        &self.records[self.start..]
     }
 
     fn event(&mut self, event: &Event, out: &mut dyn Write) -> Result<(), Trouble> {
@@ -145,7 +146,7 @@ impl Session {
                 self.named.note(event);
                 self.tally += tally;
                 if self.aloud {
-                    writeln!(out, "{}", words::accepted(event, &tally))?;
+                    writeln!(out, "{}", words::accepted(&self.network, event, &tally))?;
                 }
                 Ok(())
             }
@@ -188,38 +189,51 @@ impl Session {
     }
 
     fn drain(&mut self, budget: u32, out: &mut dyn Write) -> Result<(), Trouble> {
+        if self.expand {
+            for forward in drains::forwards(&self.network, &self.table, budget) {
+                self.records.extend(forward.encode());
+                self.named.note(&forward);
+            }
+        }
         let drained = self.network.drain(&self.table, budget);
-        if drained.forwards > 0 {
+        if drained.forwards > 0 && !self.expand {
             self.unsaid = self.unsaid.or(Some("there was a drain among them, which is no event"));
         }
         writeln!(out, "{}", words::drained(budget, &drained))?;
         Ok(())
     }
 
-    /// Takes a state, and a table if one is named, from files. Nothing changes if either is refused.
-    fn load(&mut self, state: &str, table: Option<&str>) -> Result<(), Trouble> {
-        let bytes = files::read(state)?;
-        let network = Network::read(&bytes).map_err(|refusal| {
-            Trouble::Refused(format!("{state} is refused: {}", fault::in_words(&bytes, &refusal)))
-        })?;
-        if let Some(file) = table {
-            self.table = Table::read(&files::read(file)?)
-                .map_err(|refusal| Trouble::Refused(format!("{file} is refused: {refusal}")))?;
+    /// Takes a state and its table from one file or two. Nothing changes if either is refused. Says what becomes of a table that
+    /// was there before.
+    fn load(&mut self, file: &str, other: Option<&str>, out: &mut dyn Write) -> Result<(), Trouble> {
+        let (network, table) = keep::read(file, other)?;
+        let changed = table.as_ref().map(|table| keep::changed(&self.table, table));
+        match changed {
+            None => writeln!(out, "{} has no table; the one at hand stays: {}", plain(file), keep::rows(&self.table))?,
+            Some(changed) if self.table != Table::zero() && !changed.is_empty() => {
+                writeln!(out, "{}: its table has other rows for {} than before", plain(file), words::messages(changed))?
+            }
+            Some(_) => {}
         }
-        let table = self.table.clone();
-        *self = Session { network, table, ..Session::new(self.aloud) };
+        let table = table.unwrap_or_else(|| self.table.clone());
+        self.begin(network, table);
         Ok(())
     }
 
-    fn save(&self, state: &str, table: Option<&str>) -> Result<(), Trouble> {
-        if table.is_some_and(|table| files::same(state, table)) {
-            return Err(Trouble::Text(format!("state and table can't be saved to one file, {state}")));
+    /// Starts again. Says so if rows of the table go with it.
+    fn blank(&mut self, out: &mut dyn Write) -> Result<(), Trouble> {
+        let lost = keep::changed(&self.table, &Table::zero());
+        if !lost.is_empty() {
+            let lost = words::messages(lost);
+            writeln!(out, "blank: what the table said of {lost} is gone; {}", keep::rows(&Table::zero()))?;
         }
-        files::write(state, self.network.bytes())?;
-        match table {
-            Some(file) => files::write(file, self.table.bytes()),
-            None => Ok(()),
-        }
+        self.begin(Network::blank(), Table::zero());
+        Ok(())
+    }
+
+    fn begin(&mut self, network: Network, table: Table) {
+        (self.network, self.table, self.start) = (network, table, self.records.len());
+        (self.tally, self.named, self.unsaid) = Default::default();
     }
 
     /// Runs a record file as one list. A refusal's place counts in the file.
@@ -246,10 +260,15 @@ impl Session {
         Err(Trouble::Refused(format!("{file}: {said}")))
     }
 
-    fn write_events(&self, file: &str) -> Result<(), Trouble> {
+    /// Can records say the events since the last `blank` or `load`?
+    pub fn can_be_written(&self) -> bool {
+        self.unsaid.is_none()
+    }
+
+    pub fn write_events(&self, file: &str) -> Result<(), Trouble> {
         if let Some(why) = self.unsaid {
             return Err(Trouble::Text(format!("the events can't be written: {why}")));
         }
-        files::write(file, &self.records)
+        files::write(file, self.records())
     }
 }

@@ -36,11 +36,36 @@ pub fn tally(tally: &Tally) -> String {
     format!("tally of the events: {} produced, {forwards}, {}", tally.produced, count(tally.deliveries, "delivery"))
 }
 
-pub fn accepted(event: &Event, tally: &Tally) -> String {
-    match event {
-        Event::Forward(..) => format!("{event}: {}", count(tally.deliveries, "delivery")),
-        _ => event.to_string(),
-    }
+/// Some messages by their numbers.
+pub fn messages(messages: Set<Message>) -> String {
+    let noun = if messages.len() == 1 { "message" } else { "messages" };
+    format!("{noun} {messages}")
+}
+
+/// How many peers are present and what is pending.
+pub fn overview(network: &Network) -> String {
+    format!("{}, {}", peers(network.desks().count()), pending(network.pending_pairs()))
+}
+
+/// An accepted event and what it did. The network is the one after it.
+pub fn accepted(network: &Network, event: &Event, tally: &Tally) -> String {
+    let present = peers(network.desks().count());
+    let having = |message: &Message| {
+        let (holding, seen) = network.holders(*message);
+        having(holding, seen)
+    };
+    let did = match event {
+        Event::Skip => "nothing changes".into(),
+        Event::Produce(_, message) => having(message),
+        Event::Forward(_, message) => format!("{}, {}", count(tally.deliveries, "delivery"), having(message)),
+        Event::Subscribe(peer, _) | Event::Unsubscribe(peer, _) => {
+            let subs = network.desk(*peer).map_or(Set::empty(), |desk| desk.subs);
+            format!("peer {peer} subscribes to {subs}")
+        }
+        Event::Leave(_) => present,
+        Event::Join(_, joining) => format!("{present}, linked to {}", joining.neighbours),
+    };
+    format!("{event}: {did}")
 }
 
 pub fn drained(budget: u32, drained: &Drained) -> String {

@@ -177,7 +177,7 @@ verdict $? "a cut record file is refused"
 "$relay" decode cut 2>&1 | grep -q "^cut: event bytes aren't a multiple of 16 (3)$"
 verdict $? "decode refuses a cut file"
 { cat "$examples/handover.relay"; printf 'picture five.svg message 5\ndot five.dot message 5\n'; } | "$relay" >pictures.out
-[ "$(grep -c '<circle' five.svg)" -eq 3 ] && [ "$(grep -c '<line' five.svg)" -eq 2 ] && [ "$(grep -c ' -- ' five.dot)" -eq 2 ]
+[ "$(grep -c '<circle' five.svg)" -eq 3 ] && [ "$(grep -c '<path' five.svg)" -eq 2 ] && [ "$(grep -c ' -- ' five.dot)" -eq 2 ]
 verdict $? "pictures have every peer and link"
 { grep -B 99 '^forward' "$examples/first.relay"; echo 'picture first.svg message 5'; } | "$relay" >first.out
 same "$docs/first.svg" first.svg "the picture of docs/HOST.md"

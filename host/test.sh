@@ -182,6 +182,14 @@ verdict $? "pictures have every peer and link"
 { grep -B 99 '^forward' "$examples/first.relay"; echo 'picture first.svg message 5'; } | "$relay" >first.out
 same "$docs/first.svg" first.svg "the picture of docs/HOST.md"
 
+# 32 desks with many topics: no line of `show` has 120 columns.
+for desk in $(seq 0 31); do
+    echo "join $desk subs $(seq -s , $((desk % 3)) 2 31) neighbours $(seq -s , $((desk % 2)) 2 $((desk - 1)) | grep . || echo none)"
+done >crowd.relay
+{ cat crowd.relay; printf 'show\nshow message 0\nimage\n'; } | "$relay" >crowd.out
+[ "$(grep -c '^[0-9]* *[0-9]*,' crowd.out)" -ge 64 ] && ! grep -q '.\{120\}' crowd.out
+verdict $? "32 desks are shown in less than 120 columns"
+
 if [ "$wrong" -ne 0 ]; then
     echo "host: $wrong of $tried checks went wrong"
     exit 1

@@ -108,7 +108,7 @@ impl Session {
             Command::Table(message, row) => self.set_row(*message, *row)?,
             Command::Drain(budget) => self.drain(*budget, out)?,
             Command::Show(None) => write!(out, "{}", show::network(&self.network))?,
-            Command::Show(Some(message)) => writeln!(out, "{}", words::message(&self.network, &self.table, *message))?,
+            Command::Show(Some(message)) => write!(out, "{}", show::message(&self.network, &self.table, *message))?,
             Command::Image(None) => write!(out, "{}", show::image(&self.network.image()))?,
             Command::Image(Some(file)) => files::write(file, self.network.image().bytes())?,
             Command::Tally => writeln!(out, "{}", words::tally(&self.tally))?,

@@ -21,10 +21,14 @@ fn paragraph(number: u8) -> Option<(&'static str, String)> {
 
 /// Explains a word of digits as a number, any other as a state file (`./25` is a file, too).
 pub fn explain(word: &str, out: &mut dyn Write) -> Result<(), Trouble> {
-    if word.bytes().all(|byte| byte.is_ascii_digit()) {
+    if is_number(word) {
         return explain_number(word, out);
     }
     explain_state(word, &files::read(word)?, out)
+}
+
+pub fn is_number(word: &str) -> bool {
+    word.bytes().all(|byte| byte.is_ascii_digit())
 }
 
 fn explain_number(word: &str, out: &mut dyn Write) -> Result<(), Trouble> {

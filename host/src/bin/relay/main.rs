@@ -1,14 +1,19 @@
 //! The command-line tool: a relay network as plain text, on the proved engine. `relay --help` explains it.
 //!
-//! `command` reads a line, `session` does what it says, `show` and `words` put it into words, `explain` says what a number
-//! means and what is wrong with a state, `picture` draws, `files` reads and writes.
+//! `command` reads a line, `session` does what it says, `answer` has what there is to say: `show` and `words` put it into
+//! words, `json` and `machine` into JSON. `explain` says what a number means and what is wrong with a state, `picture` draws,
+//! `files` reads and writes.
 
+mod answer;
 mod command;
 mod explain;
 mod files;
+mod json;
+mod machine;
 mod picture;
 mod session;
 mod show;
+mod trouble;
 mod words;
 
 use command::Command;
@@ -30,6 +35,9 @@ fn main() -> ExitCode {
     let arguments: Vec<String> = std::env::args().skip(1).collect();
     let words: Vec<&str> = arguments.iter().map(String::as_str).collect();
     let done = match words[..] {
+        _ if words.contains(&machine::OPTION) => {
+            machine::command(&words).unwrap_or_else(|| Err(Trouble::Text(misused(&words))))
+        }
         ["--help" | "-h" | "help"] => print(HELP),
         ["--version"] => print(concat!("relay ", env!("CARGO_PKG_VERSION"), "\n")),
         ["encode", script, file] => encode(script, file),
@@ -57,7 +65,7 @@ fn main() -> ExitCode {
 
 /// What to say of arguments that have no meaning.
 fn misused(words: &[&str]) -> String {
-    const KNOWN: [&str; 5] = ["-v", "-h", "--help", "--version", "-"];
+    const KNOWN: [&str; 6] = ["-v", "-h", "--help", "--version", machine::OPTION, "-"];
     match words.iter().find(|word| word.starts_with('-') && !KNOWN.contains(word)) {
         Some(option) => format!("relay: there is no option {option}; relay --help shows those there are"),
         None => "relay: these words make no sense together; relay --help shows what does".into(),
@@ -77,8 +85,9 @@ fn print(text: &str) -> Result<(), Trouble> {
 /// A command and the line it stands on.
 type Script = Vec<(usize, Command)>;
 
-/// Reads a whole script before any of it is run, so that a slip of the pen costs nothing; says all that is wrong with it.
-fn read_script(name: &str) -> Result<Script, Trouble> {
+/// Reads a whole script before any of it is run, so that a slip of the pen costs nothing: its commands, and all that is wrong
+/// with it.
+fn read(name: &str) -> Result<(Script, Vec<Trouble>), Trouble> {
     let mut bytes = Vec::new();
     if name == STDIN {
         io::stdin().read_to_end(&mut bytes)?;
@@ -92,18 +101,23 @@ fn read_script(name: &str) -> Result<Script, Trouble> {
         match Command::of_line(line) {
             Ok(Some(command)) => script.push((place + 1, command)),
             Ok(None) => {}
-            Err(error) => faults.push(format!("{name}:{}: {error}", place + 1)),
+            Err(error) => faults.push(Trouble::Text(error.to_string()).at(name, place + 1)),
         }
     }
+    Ok((script, faults))
+}
+
+/// Reads a script that nothing is wrong with; otherwise says what is.
+fn read_script(name: &str) -> Result<Script, Trouble> {
+    let (script, faults) = read(name)?;
     if faults.is_empty() {
         return Ok(script);
     }
+    let mut said: Vec<String> = faults.iter().take(FAULTS_SAID).map(|fault| fault.message().to_string()).collect();
     if faults.len() > FAULTS_SAID {
-        let more = faults.len() - FAULTS_SAID;
-        faults.truncate(FAULTS_SAID);
-        faults.push(format!("{name}: and {more} more"));
+        said.push(format!("{name}: and {} more", faults.len() - FAULTS_SAID));
     }
-    Err(Trouble::Text(faults.join("\n")))
+    Err(Trouble::Text(said.join("\n")))
 }
 
 /// A script's bytes as text, without the mark that some editors put first. What isn't text is named by its line and byte.
@@ -111,7 +125,7 @@ fn text_of<'a>(name: &str, bytes: &'a [u8]) -> Result<&'a str, Trouble> {
     let text = std::str::from_utf8(bytes).map_err(|error| {
         let at = error.valid_up_to();
         let line = 1 + bytes[..at].iter().filter(|&&byte| byte == b'\n').count();
-        Trouble::Text(format!("{name}:{line}: this isn't text: byte {at} of the file is {:#04x}", bytes[at]))
+        Trouble::Text(format!("this isn't text: byte {at} of the file is {:#04x}", bytes[at])).at(name, line)
     })?;
     Ok(text.strip_prefix('\u{feff}').unwrap_or(text))
 }

@@ -1,55 +1,13 @@
 //! A network under work: what each command does.
 
+use crate::answer::{Answer, Form};
 use crate::command::Command;
-use crate::{files, picture, show, words, HELP};
+pub use crate::trouble::Trouble;
+use crate::{files, picture, words};
 use relay_host::event::{Event, RECORD};
 use relay_host::fault;
-use relay_host::text::plain;
 use relay_host::{Message, Network, Reason, Refusal, Row, Set, Table, Tally};
-use std::io::{self, Write};
-
-/// Why a command could not be done.
-pub enum Trouble {
-    /// An event, a state or a change was refused.
-    Refused(String),
-    /// The text or a file can't be used.
-    Text(String),
-}
-
-impl Trouble {
-    pub fn message(&self) -> &str {
-        match self {
-            Trouble::Refused(message) | Trouble::Text(message) => message,
-        }
-    }
-
-    /// The status that the tool ends with.
-    pub fn status(&self) -> u8 {
-        match self {
-            Trouble::Refused(_) => 1,
-            Trouble::Text(_) => 2,
-        }
-    }
-
-    /// The same trouble with the script's name and line.
-    pub fn at(self, name: &str, line: usize) -> Trouble {
-        let placed = |message| format!("{name}:{line}: {message}");
-        match self {
-            Trouble::Refused(message) => Trouble::Refused(placed(message)),
-            Trouble::Text(message) => Trouble::Text(placed(message)),
-        }
-    }
-}
-
-/// Trouble with the standard streams. A reader that has gone away is not worth a word.
-impl From<io::Error> for Trouble {
-    fn from(error: io::Error) -> Trouble {
-        match error.kind() {
-            io::ErrorKind::BrokenPipe => Trouble::Text(String::new()),
-            _ => Trouble::Text(format!("relay: {error}")),
-        }
-    }
-}
+use std::io::Write;
 
 /// The messages that events have named.
 pub struct Named(Set<Message>);
@@ -85,10 +43,16 @@ pub struct Session {
     unsaid: Option<&'static str>,
     /// Tell each event?
     aloud: bool,
+    /// For whom?
+    form: Form,
 }
 
 impl Session {
     pub fn new(aloud: bool) -> Session {
+        Session::in_form(aloud, Form::Words)
+    }
+
+    pub fn in_form(aloud: bool, form: Form) -> Session {
         Session {
             network: Network::blank(),
             table: Table::zero(),
@@ -97,7 +61,12 @@ impl Session {
             named: Named::default(),
             unsaid: None,
             aloud,
+            form,
         }
+    }
+
+    fn tell(&self, answer: Answer, out: &mut dyn Write) -> Result<(), Trouble> {
+        Ok(write!(out, "{}", answer.text(self.form))?)
     }
 
     /// Does what a command says, and writes what there is to say.
@@ -107,11 +76,11 @@ impl Session {
             Command::Refused(reason, event) => self.refused(*reason, event, out)?,
             Command::Table(message, row) => self.set_row(*message, *row)?,
             Command::Drain(budget) => self.drain(*budget, out)?,
-            Command::Show(None) => write!(out, "{}", show::network(&self.network))?,
-            Command::Show(Some(message)) => write!(out, "{}", show::message(&self.network, &self.table, *message))?,
-            Command::Image(None) => write!(out, "{}", show::image(&self.network.image()))?,
+            Command::Show(None) => self.tell(Answer::Network(&self.network), out)?,
+            Command::Show(Some(message)) => self.tell(Answer::Message(&self.network, &self.table, *message), out)?,
+            Command::Image(None) => self.tell(Answer::Image(&self.network.image()), out)?,
             Command::Image(Some(file)) => files::write(file, self.network.image().bytes())?,
-            Command::Tally => writeln!(out, "{}", words::tally(&self.tally))?,
+            Command::Tally => self.tell(Answer::Tally(&self.tally), out)?,
             Command::Picture(file, message) => {
                 files::write(file, picture::svg(&self.network, &self.table, *message).as_bytes())?
             }
@@ -122,16 +91,16 @@ impl Session {
             Command::Save(state, table) => self.save(state, table.as_deref())?,
             Command::Run(file) => self.run(file, out)?,
             Command::Events(file) => self.write_events(file)?,
-            Command::Blank => *self = Session::new(self.aloud),
-            Command::Say(said) => writeln!(out, "{said}")?,
-            Command::Help => write!(out, "{HELP}")?,
+            Command::Blank => *self = Session::in_form(self.aloud, self.form),
+            Command::Say(said) => self.tell(Answer::Said(said), out)?,
+            Command::Help => self.tell(Answer::Help, out)?,
         }
         Ok(())
     }
 
     /// How things stand, in one line.
     pub fn summary(&self) -> String {
-        words::summary(self.accepted(), self.network.pending_pairs())
+        Answer::Done(self.accepted(), self.network.pending_pairs()).text(self.form).trim_end().into()
     }
 
     fn accepted(&self) -> usize {
@@ -141,31 +110,38 @@ impl Session {
     fn event(&mut self, event: &Event, out: &mut dyn Write) -> Result<(), Trouble> {
         match self.network.apply(&self.table, event) {
             Ok(tally) => {
+                let place = self.accepted();
                 self.records.extend(event.encode());
                 self.named.note(event);
                 self.tally += tally;
                 if self.aloud {
-                    writeln!(out, "{}", words::accepted(event, &tally))?;
+                    self.tell(Answer::Accepted(event, place, &tally), out)?;
                 }
                 Ok(())
             }
-            Err(refusal) => Err(Trouble::Refused(self.explain(event, refusal.reason))),
+            Err(refusal) => {
+                let (refusal, said) = self.explain(event, refusal.reason);
+                Err(Trouble::ByEngine(refusal, said))
+            }
         }
     }
 
-    /// A refused event in words. Its place counts from the first event of the session.
-    fn explain(&self, event: &Event, reason: Reason) -> String {
+    /// A refused event, also in words. Its place counts from the first event of the session.
+    fn explain(&self, event: &Event, reason: Reason) -> (Refusal, String) {
         let refusal = Refusal::at(reason, self.accepted());
-        words::refused(&self.network, &self.table, event, &refusal)
+        (refusal, words::refused(&self.network, &self.table, event, &refusal))
     }
 
     fn refused(&mut self, reason: Reason, event: &Event, out: &mut dyn Write) -> Result<(), Trouble> {
         let mut trial = self.network.clone();
         match trial.apply(&self.table, event) {
-            Err(refusal) if refusal.reason == reason => Ok(writeln!(out, "{}", self.explain(event, reason))?),
+            Err(refusal) if refusal.reason == reason => {
+                let (refusal, said) = self.explain(event, reason);
+                self.tell(Answer::Refusal(&refusal, &said), out)
+            }
             Err(refusal) => {
-                let said = self.explain(event, refusal.reason);
-                Err(Trouble::Refused(format!("{said}; by {} was expected", reason.number())))
+                let (refusal, said) = self.explain(event, refusal.reason);
+                Err(Trouble::ByEngine(refusal, format!("{said}; by {} was expected", reason.number())))
             }
             Ok(_) => {
                 Err(Trouble::Refused(format!("{event} is accepted; a refusal by {} was expected", reason.number())))
@@ -192,22 +168,21 @@ impl Session {
         if drained.forwards > 0 {
             self.unsaid = self.unsaid.or(Some("there was a drain among them, which is no event"));
         }
-        writeln!(out, "{}", words::drained(budget, &drained))?;
-        Ok(())
+        self.tell(Answer::Drain(budget, &drained), out)
     }
 
     /// Takes a state, and a table if one is named, from files. Nothing changes if either is refused.
     fn load(&mut self, state: &str, table: Option<&str>) -> Result<(), Trouble> {
         let bytes = files::read(state)?;
         let network = Network::read(&bytes).map_err(|refusal| {
-            Trouble::Refused(format!("{state} is refused: {}", fault::in_words(&bytes, &refusal)))
+            Trouble::ByEngine(refusal, format!("{state} is refused: {}", fault::in_words(&bytes, &refusal)))
         })?;
         if let Some(file) = table {
             self.table = Table::read(&files::read(file)?)
-                .map_err(|refusal| Trouble::Refused(format!("{file} is refused: {refusal}")))?;
+                .map_err(|refusal| Trouble::ByEngine(refusal, format!("{file} is refused: {refusal}")))?;
         }
         let table = self.table.clone();
-        *self = Session { network, table, ..Session::new(self.aloud) };
+        *self = Session { network, table, ..Session::in_form(self.aloud, self.form) };
         Ok(())
     }
 
@@ -233,8 +208,9 @@ impl Session {
             }
         }
         self.tally += run.tally;
+        self.tell(Answer::Run(file, run.accepted, &run.tally, run.refusal.is_some()), out)?;
         let Some(refusal) = run.refusal else {
-            return Ok(writeln!(out, "{}: {}", plain(file), words::events(run.accepted))?);
+            return Ok(());
         };
         let said = match records[run.accepted * RECORD..].first_chunk() {
             Some(record) if refusal.reason.place_of() == Some("event") => match Event::decode(record) {
@@ -243,7 +219,7 @@ impl Session {
             },
             _ => format!("refused: {refusal}"),
         };
-        Err(Trouble::Refused(format!("{file}: {said}")))
+        Err(Trouble::ByEngine(refusal, format!("{file}: {said}")))
     }
 
     fn write_events(&self, file: &str) -> Result<(), Trouble> {

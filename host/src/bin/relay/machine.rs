@@ -100,9 +100,10 @@ pub fn command(words: &[&str]) -> Option<Result<(), Trouble>> {
 #[cfg(test)]
 mod tests {
     use super::*;
+    use crate::answer::Answer;
     use crate::command::Command;
     use crate::json::reader::is_json;
-    use relay_host::{Reason, Refusal};
+    use relay_host::{Reason, Refusal, Tally};
 
     const SCRIPT: [&str; 16] = [
         "join 0 pubs 0",
@@ -117,11 +118,26 @@ mod tests {
         "drain",
         "say \"quoted\" \\ \u{e9}",
         "help",
-        "picture /dev/null/none.svg",
+        "picture no/such/folder/none.svg",
         "blank",
         "show",
         "image",
     ];
+
+    /// Every field of these lines is in the row that docs/HOST.md has for their kind.
+    fn documented(text: &str) {
+        for line in text.lines() {
+            let kind = line.split('"').nth(3).unwrap();
+            let start = format!("| `{kind}` |");
+            let row = include_str!("../../../../docs/HOST.md").lines().find(|row| row.starts_with(&start));
+            let row = row.unwrap_or_else(|| panic!("docs/HOST.md has no row for {kind}"));
+            // No text in these lines has a mark and a colon behind a word.
+            for name in line.split("\":").filter_map(|part| part.rsplit('"').next()).filter(|name| *name != "kind") {
+                let is_name = !name.is_empty() && name.bytes().all(|byte| byte.is_ascii_lowercase() || byte == b'_');
+                assert!(!is_name || row.contains(&format!("`{name}`")), "{name} of {kind}");
+            }
+        }
+    }
 
     #[test]
     fn every_answer_is_a_json_object_on_a_line() {
@@ -134,15 +150,17 @@ mod tests {
                 assert_eq!((end.message(), end.status()), ("", 2));
             }
         }
+        out.extend(Answer::Run("a", 1, &Tally::default(), false).text(Form::Json).bytes());
         let text = String::from_utf8(out).unwrap() + &session.summary();
         let kinds = [
             "event", "event", "event", "network", "message", "event", "refusal", "image", "tally", "drain", "say",
-            "help", "stopped", "network", "image", "done",
+            "help", "stopped", "network", "image", "run", "done",
         ];
         assert_eq!(text.lines().count(), kinds.len(), "{text}");
         for (line, kind) in text.lines().zip(kinds) {
             assert!(is_json(line) && line.starts_with(&format!("{{\"kind\":\"{kind}\",")), "{line}");
         }
+        documented(&text);
         assert!(text.contains("\"place\":3,\"event\":\"forward 0 5\",\"deliveries\":1}"));
         assert!(text.contains("\"script\":\"a \\\"script\\\"\\n\",\"line\":13,"));
     }
@@ -164,6 +182,7 @@ mod tests {
             let status = explain(word, &mut out).map_or_else(|trouble| trouble.status(), |()| 0);
             let text = String::from_utf8(out).unwrap();
             assert!(text.lines().count() == 1 && text.lines().all(is_json), "{text}");
+            documented(&text);
             (text, status)
         };
         let (text, status) = explained("14");
@@ -185,6 +204,7 @@ mod tests {
         ];
         for text in stored {
             assert!(!text.is_empty() && text.lines().all(is_json), "{text}");
+            documented(text);
         }
     }
 }

@@ -161,13 +161,13 @@ fn many_topics_and_messages_are_cut_short_and_told_in_full_by_the_tooltip() {
 
 #[test]
 fn a_long_title_has_room() {
-    let mut network = desks(32, "0", |one, other| one + 1 == other);
-    let produced: Vec<Event> = ["produce 0 5", "forward 0 5"].map(|line| line.parse().unwrap()).to_vec();
-    network.run(&Table::zero(), &produced);
-    measure(&svg(&network, &Table::zero(), Message::new(5)));
-    let lonely = desks(1, "0", |_, _| false);
-    let read = measure(&svg(&lonely, &Table::zero(), Message::new(5)));
-    assert!(read.texts.iter().any(|(text, _)| text == "message 5 (topic 0, origin 0): nobody has it"));
+    let star = [10, 12, 20, 22, 24].map(|peer| format!("join {peer} subs 0 neighbours 0"));
+    let forwards = ["produce 0 5", "forward 0 5", "forward 10 5", "forward 12 5"].map(String::from);
+    let network = after(&[&["join 0 pubs 0".to_string()], &star[..], &forwards[..]].concat());
+    let read = measure(&svg(&network, &Table::zero(), Message::new(5)));
+    let title = "message 5 (topic 0, origin 0): pending at 20,22,24, seen by 0,10,12";
+    assert!(read.texts.iter().any(|(text, area)| text == title && area.width() > read.frame.width() - 50.0));
+    measure(&svg(&desks(1, "0", |_, _| false), &Table::zero(), Message::new(5)));
 }
 
 #[test]

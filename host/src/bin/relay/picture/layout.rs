@@ -31,14 +31,21 @@ pub struct Label {
 }
 
 impl Label {
-    /// Lines on the side of a desk that looks away from the middle.
+    /// Lines on the side of a desk that looks away from the middle, as near as they are clear of it.
     fn beside(desk: Place, lines: &[String]) -> Label {
+        let label = |step: u32| Label::at(desk, lines, RADIUS + BESIDE + f64::from(step));
+        let clear = |label: &Label| label.area.distance(desk) >= RADIUS + BESIDE - 2.0;
+        (0..40).map(label).find(clear).unwrap_or_else(|| label(40))
+    }
+
+    /// Lines whose nearest point is about so far from the middle of a desk.
+    fn at(desk: Place, lines: &[String], away: f64) -> Label {
         let far = desk.distance(Place { x: 0.0, y: 0.0 });
         let (out_x, out_y) = if far > 0.0 { (desk.x / far, desk.y / far) } else { (0.0, 1.0) };
         let wide = lines.iter().map(|line| width(line, LETTERS)).fold(0.0, f64::max);
         let high = LINE * lines.len() as f64;
-        let x = tenths(desk.x + out_x * (RADIUS + BESIDE));
-        let top = tenths(desk.y + out_y * (RADIUS + BESIDE) + high * (out_y - 1.0) / 2.0);
+        let x = tenths(desk.x + out_x * away);
+        let top = tenths(desk.y + out_y * away + high * (out_y - 1.0) / 2.0);
         let (anchor, left) = match out_x {
             out if out > 0.1 => (Anchor::Start, x),
             out if out < -0.1 => (Anchor::End, x - wide),

@@ -40,6 +40,29 @@ row="a message row has topic or origin above 31, or bytes 2-3 not zero (4, row 6
 says 1 "standard input:1: row63's table is refused: $row" 'load row63\n'
 explained 4 "row63 is refused: its table: $row"
 gives 1 "$room/explained" "$relay" explain row63
+
+# The same for a program: what becomes of the table is a note, a refused state or table a refusal.
+cat >want <<'LINES'
+{"kind":"note","words":"quiet.state has no table; the one at hand stays: every message but 8 has topic 0 and origin 0"}
+{"kind":"event","place":0,"event":"leave 2","deliveries":0}
+{"kind":"note","words":"flight: its table has other rows for messages 5,8 than before"}
+{"kind":"event","place":0,"event":"forward 0 5","deliveries":1}
+{"kind":"note","words":"blank: what the table said of message 5 is gone; every message has topic 0 and origin 0"}
+{"kind":"refusal","number":4,"place":63,"detail":0,"words":"row63's table is refused: ROW"}
+{"kind":"stopped","status":1,"script":"standard input","line":7,"words":"row63's table is refused: ROW"}
+LINES
+sed -i "s/ROW/$row/" want
+printf '%s\n' 'table 8 topic 1 origin 2' 'load quiet.state' 'leave 2' 'load flight' 'forward 0 5' blank 'load row63' >noted
+gives 1 want "$relay" --json -v - <noted
+echo "{\"kind\":\"refusal\",\"number\":4,\"place\":63,\"detail\":0,\"words\":\"row63 is refused: its table: $row\"}" >want
+gives 1 want "$relay" --json explain row63
+echo '{"kind":"sound","file":"flight","peers":3,"pending_pairs":1,"table":true}' >want
+gives 0 want "$relay" --json explain flight
+words="flight.state is a state without its table, and desks in it have message 5; load both: load flight.state TABLE"
+echo "{\"kind\":\"stopped\",\"status\":1,\"script\":\"standard input\",\"line\":1,\"words\":\"$words\"}" >want
+echo 'load flight.state' >noted
+gives 1 want "$relay" --json - <noted
+
 cp flight.state kept.state
 says 2 "standard input:2: none/table can't be written: No such file or directory (os error 2)" 'join 9\nsave kept.state none/table\n'
 same flight.state kept.state "a state whose table can't be written isn't written either"
@@ -96,6 +119,8 @@ loses "$examples/first.relay:5: $lost" "$relay" "$examples/first.relay"
 loses "$lost" "$relay" decode records
 loses "$lost" "$relay" explain bad25
 loses "$lost" "$relay" -i
+loses "$examples/first.relay:5: $lost" "$relay" --json "$examples/first.relay"
+loses "$lost" "$relay" --json explain 14
 "$relay" --frob 2>/dev/full
 [ $? -eq 2 ]
 verdict $? "a message that is lost leaves the status"
@@ -104,6 +129,9 @@ wait $!
 "$relay" "$examples/first.relay" 2>pipe.err >&7
 [ $? -eq 3 ] && [ ! -s pipe.err ]
 verdict $? "a broken pipe ends the tool quietly"
+"$relay" --json "$examples/first.relay" 2>pipe.err >&7
+[ $? -eq 3 ] && [ ! -s pipe.err ]
+verdict $? "so with --json"
 exec 7>&-
 
 # Lines as they are typed: each says what it did, a bad one costs itself only, and changes are taken back.

@@ -65,6 +65,13 @@ gives 0 examples/cases.out "$relay" examples/cases.relay
 gives 1 examples/refused.out "$relay" examples/refused.relay
 gives 1 examples/accident.out "$relay" examples/accident.relay
 gives 2 examples/bad.out "$relay" examples/bad.relay
+# The same for a program to read, and that the place of the option is all one.
+gives 0 examples/first.jsonl "$relay" --json examples/first.relay
+gives 1 examples/refused.jsonl "$relay" examples/refused.relay --json
+gives 1 examples/accident.jsonl "$relay" --json examples/accident.relay
+gives 2 examples/bad.jsonl "$relay" --json examples/bad.relay
+head -n 1 examples/accident.jsonl >"$room/said"
+gives 1 "$room/said" "$relay" --json explain examples/accident.state
 gives 0 host/src/bin/relay/help.txt "$relay" --help
 cat >"$room/explained" <<'TEXT'
 14: leaver has something pending
@@ -128,6 +135,8 @@ unsound() { # NUMBER WORDS RECORD BYTE OCTAL [RECORD BYTE OCTAL]
         shift 3
     done
     says 1 "standard input:1: $bad is refused: $words" "load $bad\n"
+    "$relay" --json explain "$bad" | grep -q "^{\"kind\":\"refusal\",\"number\":$number,\"place\":[0-9]*,\"detail\":[0-9]*,"
+    verdict $? "--json gives $number as a refusal"
     explained "$number" "$bad is refused: $words"
     gives 1 "$room/explained" "$relay" explain "$bad"
 }
@@ -173,16 +182,34 @@ same image image.load "an image is a state without links"
 printf 'run records\nrun records\n' | "$relay" >twice.out 2>&1
 grep -q '^standard input:2: records: join 0 pubs 0 is refused: joining peer already present (9, event 0)$' twice.out
 verdict $? "a refused record is named"
+cat >want <<'LINES'
+{"kind":"run","file":"records","accepted":7,"produced":1,"forwards":1,"deliveries":1}
+{"kind":"run","file":"records","accepted":0,"produced":0,"forwards":0,"deliveries":0}
+{"kind":"refusal","number":9,"place":0,"detail":0,"words":"records: join 0 pubs 0 is refused: joining peer already present (9, event 0)"}
+{"kind":"stopped","status":1,"script":"standard input","line":2,"words":"records: join 0 pubs 0 is refused: joining peer already present (9, event 0)"}
+LINES
+printf 'run records\nrun records\n' >twice
+gives 1 want "$relay" --json - <twice
+echo '{"kind":"sound","file":"state","peers":2,"pending_pairs":1,"table":false}' >want
+gives 0 want "$relay" explain state --json
 head -c 100 records >cut
 printf 'run cut\n' | "$relay" 2>&1 | grep -q "cut: refused: event bytes aren't a multiple of 16 (3)$"
 verdict $? "a cut record file is refused"
 "$relay" decode cut 2>&1 | grep -q "^cut: event bytes aren't a multiple of 16 (3)$"
 verdict $? "decode refuses a cut file"
 { cat "$examples/handover.relay"; printf 'picture five.svg message 5\ndot five.dot message 5\n'; } | "$relay" >pictures.out
-[ "$(grep -c '<circle' five.svg)" -eq 3 ] && [ "$(grep -c '<line' five.svg)" -eq 2 ] && [ "$(grep -c ' -- ' five.dot)" -eq 2 ]
+[ "$(grep -c '<circle' five.svg)" -eq 3 ] && [ "$(grep -c '<path' five.svg)" -eq 2 ] && [ "$(grep -c ' -- ' five.dot)" -eq 2 ]
 verdict $? "pictures have every peer and link"
 { grep -B 99 '^forward' "$examples/first.relay"; echo 'picture first.svg message 5'; } | "$relay" >first.out
 same "$docs/first.svg" first.svg "the picture of docs/HOST.md"
+
+# 32 desks with many topics: no line of `show` has 120 columns.
+for desk in $(seq 0 31); do
+    echo "join $desk subs $(seq -s , $((desk % 3)) 2 31) neighbours $(seq -s , $((desk % 2)) 2 $((desk - 1)) | grep . || echo none)"
+done >crowd.relay
+{ cat crowd.relay; printf 'show\nshow message 0\nimage\n'; } | "$relay" >crowd.out
+[ "$(grep -c '^[0-9]* *[0-9]*,' crowd.out)" -ge 64 ] && ! grep -q '.\{120\}' crowd.out
+verdict $? "32 desks are shown in less than 120 columns"
 
 # shellcheck source=host/test-tool.sh
 . "$host/test-tool.sh" || exit 2

@@ -5,7 +5,7 @@ use crate::{files, keep, words};
 use relay_host::fault;
 use relay_host::refusal::NUMBERS;
 use relay_host::text::plain;
-use relay_host::{Network, Table};
+use relay_host::{Network, Refusal, Table};
 use std::io::Write;
 
 const RULES: &str = include_str!("../../../../docs/RULES.md");
@@ -21,10 +21,14 @@ fn paragraph(number: u8) -> Option<(&'static str, String)> {
 
 /// Explains a word of digits as a number, any other as a state file (`./25` is a file, too).
 pub fn explain(word: &str, out: &mut dyn Write) -> Result<(), Trouble> {
-    if word.bytes().all(|byte| byte.is_ascii_digit()) {
+    if is_number(word) {
         return explain_number(word, out);
     }
     explain_file(word, &files::read(word)?, out)
+}
+
+pub fn is_number(word: &str) -> bool {
+    word.bytes().all(|byte| byte.is_ascii_digit())
 }
 
 fn explain_number(word: &str, out: &mut dyn Write) -> Result<(), Trouble> {
@@ -36,15 +40,23 @@ fn explain_number(word: &str, out: &mut dyn Write) -> Result<(), Trouble> {
     }
 }
 
-/// Says whether a state is sound; if not, which rule it breaks and where, what that means and what to do. So of its table, if that
-/// is in the file.
-fn explain_file(name: &str, bytes: &[u8], out: &mut dyn Write) -> Result<(), Trouble> {
+/// A state, and its table if that is in the file: the network and whether the table is there, or the refusal and which rule is
+/// broken where.
+pub fn judged(bytes: &[u8]) -> Result<(Network, bool), (Refusal, String)> {
     let (state, table) = keep::parts(bytes);
-    let (said, refusal) = match (Network::read(state), table.map(Table::read)) {
-        (Err(refusal), _) => (fault::in_words(state, &refusal), refusal),
-        (_, Some(Err(refusal))) => (format!("its table: {refusal}"), refusal),
-        (Ok(network), table) => {
-            let end = if table.is_some() { "; its table is with it" } else { "" };
+    let network = Network::read(state).map_err(|refusal| (refusal, fault::in_words(state, &refusal)))?;
+    match table.map(Table::read) {
+        Some(Err(refusal)) => Err((refusal, format!("its table: {refusal}"))),
+        table => Ok((network, table.is_some())),
+    }
+}
+
+/// Says whether a state is sound; if not, which rule it breaks and where, what that means and what to do. So of its table.
+fn explain_file(name: &str, bytes: &[u8], out: &mut dyn Write) -> Result<(), Trouble> {
+    let (refusal, said) = match judged(bytes) {
+        Err(refused) => refused,
+        Ok((network, table)) => {
+            let end = if table { "; its table is with it" } else { "" };
             return Ok(writeln!(out, "{} is sound: {}{end}", plain(name), words::overview(&network))?);
         }
     };

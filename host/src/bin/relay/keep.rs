@@ -24,8 +24,9 @@ pub fn parts(bytes: &[u8]) -> (&[u8], Option<&[u8]>) {
 pub fn read(file: &str, other: Option<&str>) -> Result<(Network, Option<Table>), Trouble> {
     let bytes = files::read(file)?;
     let (state, table) = parts(&bytes);
-    let network = Network::read(state)
-        .map_err(|refusal| Trouble::Refused(format!("{file} is refused: {}", fault::in_words(state, &refusal))))?;
+    let network = Network::read(state).map_err(|refusal| {
+        Trouble::ByEngine(refusal, format!("{file} is refused: {}", fault::in_words(state, &refusal)))
+    })?;
     let table = match (table, other) {
         (Some(table), None) => Some(read_table(&format!("{file}'s table"), table)?),
         (None, Some(other)) => Some(read_table(other, &files::read(other)?)?),
@@ -48,7 +49,7 @@ pub fn read(file: &str, other: Option<&str>) -> Result<(Network, Option<Table>),
 }
 
 fn read_table(file: &str, table: &[u8]) -> Result<Table, Trouble> {
-    Table::read(table).map_err(|refusal| Trouble::Refused(format!("{file} is refused: {refusal}")))
+    Table::read(table).map_err(|refusal| Trouble::ByEngine(refusal, format!("{file} is refused: {refusal}")))
 }
 
 /// Writes a state and its table, in one file or two.

@@ -1,15 +1,19 @@
 //! The command-line tool: a relay network as plain text, on the proved engine. `relay --help` explains it.
 //!
-//! `pieces` takes a line apart and `command` reads it, `session` does what it says, `show` and `words` put it into words, `talk` is for
-//! lines as they are typed, `encode` makes event records of a script and `drains` a drain's forwards, `explain` says what a number
-//! means and what is wrong with a state, `picture` draws, `keep` has states with their tables, `files` reads and writes.
+//! `pieces` takes a line apart and `command` reads it, `session` does what it says, `answer` has what there is to say: `show` and
+//! `words` put it into words, `json` and `machine` into JSON. `talk` is for lines as they are typed, `encode` makes event records of
+//! a script and `drains` a drain's forwards, `explain` says what a number means and what is wrong with a state, `picture` draws,
+//! `keep` has states with their tables, `files` reads and writes, `trouble` is why something could not be done.
 
+mod answer;
 mod command;
 mod drains;
 mod encode;
 mod explain;
 mod files;
+mod json;
 mod keep;
+mod machine;
 mod picture;
 mod pieces;
 mod session;
@@ -39,6 +43,9 @@ fn main() -> ExitCode {
         _ if words.iter().any(|word| word.contains(char::REPLACEMENT_CHARACTER)) => {
             Err(Trouble::Text("relay: an argument isn't text".into()))
         }
+        _ if words.contains(&machine::OPTION) => {
+            machine::command(&words).unwrap_or_else(|| Err(Trouble::Text(misused(&words))))
+        }
         ["--help" | "-h" | "help"] => print(HELP),
         ["--version"] => print(concat!("relay ", env!("CARGO_PKG_VERSION"), "\n")),
         ["encode", "--expand", script, file] => encode::expand(script, file),
@@ -67,7 +74,7 @@ fn main() -> ExitCode {
 
 /// What to say of arguments that have no meaning.
 fn misused(words: &[&str]) -> String {
-    const KNOWN: [&str; 7] = ["-v", "-i", "-h", "--help", "--version", "--expand", "-"];
+    const KNOWN: [&str; 8] = ["-v", "-i", "-h", "--help", "--version", "--expand", machine::OPTION, "-"];
     match words.iter().find(|word| word.starts_with('-') && !KNOWN.contains(word)) {
         Some(option) => format!("relay: there is no option {option}; relay --help shows those there are"),
         None => "relay: these words make no sense together; relay --help shows what does".into(),
@@ -87,8 +94,9 @@ fn print(text: &str) -> Result<(), Trouble> {
 /// A command and the line it stands on.
 type Script = Vec<(usize, Command)>;
 
-/// Reads a whole script before any of it is run, so that a slip of the pen costs nothing; says all that is wrong with it.
-fn read_script(name: &str) -> Result<Script, Trouble> {
+/// Reads a whole script before any of it is run, so that a slip of the pen costs nothing: its commands, and all that is wrong
+/// with it.
+fn read(name: &str) -> Result<(Script, Vec<Trouble>), Trouble> {
     let mut bytes = Vec::new();
     if name == STDIN {
         io::stdin().read_to_end(&mut bytes).map_err(unreadable)?;
@@ -102,18 +110,23 @@ fn read_script(name: &str) -> Result<Script, Trouble> {
         match Command::of_line(line) {
             Ok(Some(command)) => script.push((place + 1, command)),
             Ok(None) => {}
-            Err(error) => faults.push(format!("{name}:{}: {error}", place + 1)),
+            Err(error) => faults.push(Trouble::Text(error.to_string()).at(name, place + 1)),
         }
     }
+    Ok((script, faults))
+}
+
+/// Reads a script that nothing is wrong with; otherwise says what is.
+fn read_script(name: &str) -> Result<Script, Trouble> {
+    let (script, faults) = read(name)?;
     if faults.is_empty() {
         return Ok(script);
     }
+    let mut said: Vec<String> = faults.iter().take(FAULTS_SAID).map(|fault| fault.message().to_string()).collect();
     if faults.len() > FAULTS_SAID {
-        let more = faults.len() - FAULTS_SAID;
-        faults.truncate(FAULTS_SAID);
-        faults.push(format!("{name}: and {more} more"));
+        said.push(format!("{name}: and {} more", faults.len() - FAULTS_SAID));
     }
-    Err(Trouble::Text(faults.join("\n")))
+    Err(Trouble::Text(said.join("\n")))
 }
 
 fn unreadable(error: io::Error) -> Trouble {
@@ -125,7 +138,7 @@ fn text_of<'a>(name: &str, bytes: &'a [u8]) -> Result<&'a str, Trouble> {
     let text = std::str::from_utf8(bytes).map_err(|error| {
         let at = error.valid_up_to();
         let line = 1 + bytes[..at].iter().filter(|&&byte| byte == b'\n').count();
-        Trouble::Text(format!("{name}:{line}: this isn't text: byte {at} of the file is {:#04x}", bytes[at]))
+        Trouble::Text(format!("this isn't text: byte {at} of the file is {:#04x}", bytes[at])).at(name, line)
     })?;
     Ok(text.strip_prefix('\u{feff}').unwrap_or(text))
 }

@@ -1,9 +1,10 @@
 //! A network under work: what each command does.
 
+use crate::answer::{Answer, Form};
 use crate::command::Command;
 use crate::encode::Named;
 pub use crate::trouble::Trouble;
-use crate::{drains, files, keep, picture, show, words, HELP};
+use crate::{drains, files, keep, picture, words};
 use relay_host::event::{Event, RECORD};
 use relay_host::text::plain;
 use relay_host::{Message, Network, Reason, Refusal, Row, Table, Tally};
@@ -24,6 +25,8 @@ pub struct Session {
     unsaid: Option<&'static str>,
     /// Tell each event?
     aloud: bool,
+    /// For whom?
+    form: Form,
     /// Are a drain's forwards among the events?
     expand: bool,
 }
@@ -42,6 +45,10 @@ pub struct Standing {
 
 impl Session {
     pub fn new(aloud: bool) -> Session {
+        Session::in_form(aloud, Form::Words)
+    }
+
+    pub fn in_form(aloud: bool, form: Form) -> Session {
         Session {
             network: Network::blank(),
             table: Table::zero(),
@@ -51,6 +58,7 @@ impl Session {
             named: Named::default(),
             unsaid: None,
             aloud,
+            form,
             expand: false,
         }
     }
@@ -86,6 +94,10 @@ impl Session {
         } = before;
     }
 
+    fn tell(&self, answer: Answer, out: &mut dyn Write) -> Result<(), Trouble> {
+        Ok(write!(out, "{}", answer.text(self.form))?)
+    }
+
     /// Does what a command says, and writes what there is to say.
     pub fn execute(&mut self, command: &Command, out: &mut dyn Write) -> Result<(), Trouble> {
         match command {
@@ -93,11 +105,11 @@ impl Session {
             Command::Refused(reason, event) => self.refused(*reason, event, out)?,
             Command::Table(message, row) => self.set_row(*message, *row)?,
             Command::Drain(budget) => self.drain(*budget, out)?,
-            Command::Show(None) => write!(out, "{}", show::network(&self.network))?,
-            Command::Show(Some(message)) => writeln!(out, "{}", words::message(&self.network, &self.table, *message))?,
-            Command::Image(None) => write!(out, "{}", show::image(&self.network.image()))?,
+            Command::Show(None) => self.tell(Answer::Network(&self.network), out)?,
+            Command::Show(Some(message)) => self.tell(Answer::Message(&self.network, &self.table, *message), out)?,
+            Command::Image(None) => self.tell(Answer::Image(&self.network.image()), out)?,
             Command::Image(Some(file)) => files::write(file, self.network.image().bytes())?,
-            Command::Tally => writeln!(out, "{}", words::tally(&self.tally))?,
+            Command::Tally => self.tell(Answer::Tally(&self.tally), out)?,
             Command::Picture(file, message) => {
                 files::write(file, picture::svg(&self.network, &self.table, *message).as_bytes())?
             }
@@ -109,15 +121,15 @@ impl Session {
             Command::Run(file) => self.run(file, out)?,
             Command::Events(file) => self.write_events(file)?,
             Command::Blank => self.blank(out)?,
-            Command::Say(said) => writeln!(out, "{said}")?,
-            Command::Help => write!(out, "{HELP}")?,
+            Command::Say(said) => self.tell(Answer::Said(said), out)?,
+            Command::Help => self.tell(Answer::Help, out)?,
         }
         Ok(())
     }
 
     /// How things stand, in one line.
     pub fn summary(&self) -> String {
-        words::summary(self.accepted(), self.network.pending_pairs())
+        Answer::Done(self.accepted(), self.network.pending_pairs()).text(self.form).trim_end().into()
     }
 
     /// The network in one line.
@@ -142,31 +154,38 @@ impl Session {
     fn event(&mut self, event: &Event, out: &mut dyn Write) -> Result<(), Trouble> {
         match self.network.apply(&self.table, event) {
             Ok(tally) => {
+                let place = self.accepted();
                 self.records.extend(event.encode());
                 self.named.note(event);
                 self.tally += tally;
                 if self.aloud {
-                    writeln!(out, "{}", words::accepted(&self.network, event, &tally))?;
+                    self.tell(Answer::Accepted(&self.network, event, place, &tally), out)?;
                 }
                 Ok(())
             }
-            Err(refusal) => Err(Trouble::Refused(self.explain(event, refusal.reason))),
+            Err(refusal) => {
+                let (refusal, said) = self.explain(event, refusal.reason);
+                Err(Trouble::ByEngine(refusal, said))
+            }
         }
     }
 
-    /// A refused event in words. Its place counts from the first event of the session.
-    fn explain(&self, event: &Event, reason: Reason) -> String {
+    /// A refused event, also in words. Its place counts from the first event since the last `blank` or `load`.
+    fn explain(&self, event: &Event, reason: Reason) -> (Refusal, String) {
         let refusal = Refusal::at(reason, self.accepted());
-        words::refused(&self.network, &self.table, event, &refusal)
+        (refusal, words::refused(&self.network, &self.table, event, &refusal))
     }
 
     fn refused(&mut self, reason: Reason, event: &Event, out: &mut dyn Write) -> Result<(), Trouble> {
         let mut trial = self.network.clone();
         match trial.apply(&self.table, event) {
-            Err(refusal) if refusal.reason == reason => Ok(writeln!(out, "{}", self.explain(event, reason))?),
+            Err(refusal) if refusal.reason == reason => {
+                let (refusal, said) = self.explain(event, reason);
+                self.tell(Answer::Refusal(&refusal, &said), out)
+            }
             Err(refusal) => {
-                let said = self.explain(event, refusal.reason);
-                Err(Trouble::Refused(format!("{said}; by {} was expected", reason.number())))
+                let (refusal, said) = self.explain(event, refusal.reason);
+                Err(Trouble::ByEngine(refusal, format!("{said}; by {} was expected", reason.number())))
             }
             Ok(_) => {
                 Err(Trouble::Refused(format!("{event} is accepted; a refusal by {} was expected", reason.number())))
@@ -199,8 +218,7 @@ impl Session {
         if drained.forwards > 0 && !self.expand {
             self.unsaid = self.unsaid.or(Some("there was a drain among them, which is no event"));
         }
-        writeln!(out, "{}", words::drained(budget, &drained))?;
-        Ok(())
+        self.tell(Answer::Drain(budget, &drained), out)
     }
 
     /// Takes a state and its table from one file or two. Nothing changes if either is refused. Says what becomes of a table that
@@ -208,12 +226,15 @@ impl Session {
     fn load(&mut self, file: &str, other: Option<&str>, out: &mut dyn Write) -> Result<(), Trouble> {
         let (network, table) = keep::read(file, other)?;
         let changed = table.as_ref().map(|table| keep::changed(&self.table, table));
-        match changed {
-            None => writeln!(out, "{} has no table; the one at hand stays: {}", plain(file), keep::rows(&self.table))?,
+        let note = match changed {
+            None => Some(format!("{} has no table; the one at hand stays: {}", plain(file), keep::rows(&self.table))),
             Some(changed) if self.table != Table::zero() && !changed.is_empty() => {
-                writeln!(out, "{}: its table has other rows for {} than before", plain(file), words::messages(changed))?
+                Some(format!("{}: its table has other rows for {} than before", plain(file), words::messages(changed)))
             }
-            Some(_) => {}
+            Some(_) => None,
+        };
+        if let Some(note) = note {
+            self.tell(Answer::Note(&note), out)?;
         }
         let table = table.unwrap_or_else(|| self.table.clone());
         self.begin(network, table);
@@ -225,7 +246,8 @@ impl Session {
         let lost = keep::changed(&self.table, &Table::zero());
         if !lost.is_empty() {
             let lost = words::messages(lost);
-            writeln!(out, "blank: what the table said of {lost} is gone; {}", keep::rows(&Table::zero()))?;
+            let note = format!("blank: what the table said of {lost} is gone; {}", keep::rows(&Table::zero()));
+            self.tell(Answer::Note(&note), out)?;
         }
         self.begin(Network::blank(), Table::zero());
         Ok(())
@@ -247,8 +269,9 @@ impl Session {
             }
         }
         self.tally += run.tally;
+        self.tell(Answer::Run(file, run.accepted, &run.tally, run.refusal.is_some()), out)?;
         let Some(refusal) = run.refusal else {
-            return Ok(writeln!(out, "{}: {}", plain(file), words::events(run.accepted))?);
+            return Ok(());
         };
         let said = match records[run.accepted * RECORD..].first_chunk() {
             Some(record) if refusal.reason.place_of() == Some("event") => match Event::decode(record) {
@@ -257,7 +280,7 @@ impl Session {
             },
             _ => format!("refused: {refusal}"),
         };
-        Err(Trouble::Refused(format!("{file}: {said}")))
+        Err(Trouble::ByEngine(refusal, format!("{file}: {said}")))
     }
 
     /// Can records say the events since the last `blank` or `load`?

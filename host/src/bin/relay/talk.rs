@@ -38,9 +38,7 @@ pub fn talk(input: &mut dyn BufRead, out: &mut dyn Write) -> Result<(), Trouble>
             Err(_) => Err(Trouble::Text("this line isn't text".into())),
         };
         match done {
-            Err(trouble @ (Trouble::Refused(_) | Trouble::Text(_))) => {
-                writeln!(out, "{}", plain_lines(trouble.message()))?
-            }
+            Err(trouble) if !trouble.is_loss() => writeln!(out, "{}", plain_lines(trouble.message()))?,
             done => done?,
         }
     }

@@ -1,7 +1,8 @@
 //! The commands of the tool, and how a line of text becomes one.
 
+use crate::line::{TextError, Words};
 use relay_host::refusal::NUMBERS;
-use relay_host::text::{plain, TextError, Words, FORMS};
+use relay_host::text::{plain, FORMS};
 use relay_host::{Event, Message, Reason, Row, ENOUGH};
 
 #[derive(Clone, Debug, PartialEq, Eq)]

@@ -1,11 +1,12 @@
 //! The command-line tool: a relay network as plain text, on the proved engine. `relay --help` explains it.
 //!
-//! `command` reads a line, `session` does what it says, `show` and `words` put it into words, `explain` says what a number
+//! `command` reads a `line`, `session` does what it says, `show` and `words` put it into words, `explain` says what a number
 //! means and what is wrong with a state, `picture` draws, `files` reads and writes.
 
 mod command;
 mod explain;
 mod files;
+mod line;
 mod picture;
 mod session;
 mod show;

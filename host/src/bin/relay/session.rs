@@ -51,6 +51,13 @@ impl From<io::Error> for Trouble {
     }
 }
 
+/// Where the engine refuses what it can't refuse, it is out of reach.
+impl From<Refusal> for Trouble {
+    fn from(refusal: Refusal) -> Trouble {
+        Trouble::Text(format!("relay: {refusal}"))
+    }
+}
+
 /// The messages that events have named.
 pub struct Named(Set<Message>);
 
@@ -109,8 +116,8 @@ impl Session {
             Command::Drain(budget) => self.drain(*budget, out)?,
             Command::Show(None) => write!(out, "{}", show::network(&self.network))?,
             Command::Show(Some(message)) => writeln!(out, "{}", words::message(&self.network, &self.table, *message))?,
-            Command::Image(None) => write!(out, "{}", show::image(&self.network.image()))?,
-            Command::Image(Some(file)) => files::write(file, self.network.image().bytes())?,
+            Command::Image(None) => write!(out, "{}", show::image(&self.network.image()?))?,
+            Command::Image(Some(file)) => files::write(file, self.network.image()?.bytes())?,
             Command::Tally => writeln!(out, "{}", words::tally(&self.tally))?,
             Command::Picture(file, message) => {
                 files::write(file, picture::svg(&self.network, &self.table, *message).as_bytes())?
@@ -188,7 +195,7 @@ impl Session {
     }
 
     fn drain(&mut self, budget: u32, out: &mut dyn Write) -> Result<(), Trouble> {
-        let drained = self.network.drain(&self.table, budget);
+        let drained = self.network.drain(&self.table, budget)?;
         if drained.forwards > 0 {
             self.unsaid = self.unsaid.or(Some("there was a drain among them, which is no event"));
         }

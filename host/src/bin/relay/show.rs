@@ -81,6 +81,6 @@ peer  subs   pubs  neighbours  pending  seen  known subscribers
 3 peers present, 1 pair pending
 ";
         assert_eq!(network(&chain), expected);
-        assert_eq!(image(&Network::blank().image()), "peer  subs  pubs  seen\n0 peers present in the image\n");
+        assert_eq!(image(&Network::blank().image().unwrap()), "peer  subs  pubs  seen\n0 peers present in the image\n");
     }
 }

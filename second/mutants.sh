@@ -31,7 +31,9 @@ done
 wanted=" $(echo $wanted) " # single spaces
 all=$out/mutants
 rm -rf "$all"
-mkdir -p "$all"
+# The copies look for the declarations of the engine's interface where the original does: beside their folder.
+mkdir -p "$all/host/src"
+cp host/src/interface.rs "$all/host/src/"
 [ -n "$ready" ] || compile_compare "$route"
 found=0 missed=''
 
@@ -57,7 +59,7 @@ with_engine() { # COPY
         link_compare "$1/compare" "$1/libengine.a"
         command=$1/compare
     else
-        ${CC:-cc} -O2 second/shim.c "$1/libengine.a" -lpthread -ldl -lm -o "$1/shim"
+        ${CC:-cc} -O2 -I host second/shim.c "$1/libengine.a" -lpthread -ldl -lm -o "$1/shim"
         command="$all/compare --engine $1/shim ;"
     fi
 }

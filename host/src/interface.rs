@@ -60,6 +60,8 @@ pub struct Checked {
     pub place: usize,
 }
 
+// By hand, since the folders that take this file have lines of different widths.
+#[rustfmt::skip]
 extern "C" {
     pub fn relay_run(
         state: *mut u8,

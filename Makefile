@@ -19,7 +19,7 @@ else
 library := target/staticlib/libengine.a
 $(library): crates.txt $(shell find crates -type f -not -path '*/must-fail/*')
 	@echo "make: proving the engine and compiling it: some minutes from nothing, and not again while the crates stay as they are."
-	@echo "make: lines with 'note:' are the prover's remarks on what a proof costs. They are no faults: a fault ends this with an error."
+	@echo "make: lines with 'note:' are the prover's remarks, mostly on what a proof costs, and no faults: a fault ends this with an error."
 	rt staticlib engine
 	@touch $@
 	@echo "make: proved and compiled: $@"

@@ -59,6 +59,7 @@ relay=${CARGO_TARGET_DIR:-$PWD/host/target}/release/relay
 
 . host/checks/crate.sh
 . host/checks/install.sh
+. host/checks/flood.sh
 
 sh host/link-c.sh "$library" "$room/example" host/example.c || exit 1
 gives 0 host/example.out "$room/example"

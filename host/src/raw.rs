@@ -75,6 +75,34 @@ pub fn copy(from: &[u8], to: &mut [u8]) -> Checked {
     engine::copy(from, to)
 }
 
+/// An answer of any kind that is dropped unread is a warning, here made an error.
+///
+/// ```compile_fail
+/// #![deny(unused_must_use)]
+/// relay_host::raw::run(&mut [], &[], &[], &mut relay_host::Tally::default());
+/// ```
+/// ```compile_fail
+/// #![deny(unused_must_use)]
+/// relay_host::raw::forward(&mut [], &[], 0, 0);
+/// ```
+/// ```compile_fail
+/// #![deny(unused_must_use)]
+/// relay_host::raw::drain(&mut [], &[], 0);
+/// ```
+/// ```compile_fail
+/// #![deny(unused_must_use)]
+/// relay_host::raw::check(&[]);
+/// ```
+/// ```
+/// #![deny(unused_must_use)]
+/// let _ = relay_host::raw::run(&mut [], &[], &[], &mut relay_host::Tally::default());
+/// let _ = relay_host::raw::forward(&mut [], &[], 0, 0);
+/// let _ = relay_host::raw::drain(&mut [], &[], 0);
+/// let _ = relay_host::raw::check(&[]);
+/// ```
+#[cfg(doctest)]
+struct Unread;
+
 #[cfg(test)]
 mod tests {
     use super::*;

@@ -14,6 +14,8 @@ version := $(shell sed -n 's/^version = "\(.*\)"/\1/p' host/Cargo.toml)
 program := $(or $(CARGO_TARGET_DIR),host/target)/release/relay
 
 ifdef RELAY_ENGINE_DIR
+override RELAY_ENGINE_DIR := $(abspath $(RELAY_ENGINE_DIR))
+export RELAY_ENGINE_DIR
 library := $(RELAY_ENGINE_DIR)/libengine.a
 else
 library := target/staticlib/libengine.a
@@ -34,7 +36,7 @@ test:
 library: $(library)
 
 tool: $(library)
-	cd host && cargo build --offline --locked --release --quiet
+	cargo build --offline --locked --release --quiet --manifest-path host/Cargo.toml
 
 # On a machine that can't link the library (x86-64 code) the tool talks to the engine as a process, which is installed with it.
 install: tool

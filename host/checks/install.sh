@@ -1,8 +1,9 @@
 # Part of host/test.sh: what the Makefile proves and installs. Begins and ends in the repository's folder.
 
 # The engine is proved when its crates have changed, and not otherwise; told with an `rt` that only counts.
-mkdir "$room/tree" "$room/counting"
-cp -R Makefile crates.txt crates host "$room/tree/"
+mkdir -p "$room/tree/host" "$room/counting"
+cp -R Makefile crates.txt crates "$room/tree/"
+cp host/Cargo.toml "$room/tree/host/"
 cat >"$room/counting/rt" <<'RT'
 #!/bin/sh
 echo "$*" >>counted

@@ -54,7 +54,7 @@ impl From<io::Error> for Trouble {
 /// Where the engine refuses what it can't refuse, it is out of reach.
 impl From<Refusal> for Trouble {
     fn from(refusal: Refusal) -> Trouble {
-        Trouble::Text(format!("relay: {refusal}"))
+        Trouble::Text(refusal.to_string())
     }
 }
 

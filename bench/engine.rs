@@ -1,52 +1,13 @@
-//! The calls that are timed, as the library's header has them, and the four who answer them: the proved engine through its static
+//! The calls that are timed, as host/src/interface.rs declares them, and the four who answer them: the proved engine through its static
 //! library, plain Rust, and a faster plain Rust without shortcuts and with them. All are called through pointers, so that no call is
 //! compiled into the timing.
+#[allow(dead_code)]
+#[path = "../host/src/interface.rs"]
+mod interface;
+
 use crate::{best, plain};
-
-#[repr(C)]
-#[derive(Clone, Copy, Default, PartialEq, Eq, Debug)]
-pub struct Tally {
-    pub produced: u64,
-    pub forwards: u64,
-    pub deliveries: u64,
-}
-
-#[repr(C)]
-#[derive(Clone, Copy, PartialEq, Eq, Debug)]
-pub struct Answer {
-    pub number: u8,
-    pub detail: u8,
-    pub place: usize,
-    pub accepted: usize,
-}
-
-#[repr(C)]
-#[derive(Clone, Copy, PartialEq, Eq, Debug)]
-pub struct Forwarded {
-    pub number: u8,
-    pub detail: u8,
-    pub place: usize,
-    pub deliveries: u32,
-}
-
-#[repr(C)]
-#[derive(Clone, Copy, PartialEq, Eq, Debug)]
-pub struct Drained {
-    pub number: u8,
-    pub detail: u8,
-    pub place: usize,
-    pub forwards: u32,
-    pub rounds: u32,
-    pub quiet: bool,
-}
-
-#[repr(C)]
-#[derive(Clone, Copy, PartialEq, Eq, Debug)]
-pub struct Checked {
-    pub number: u8,
-    pub detail: u8,
-    pub place: usize,
-}
+use interface::{relay_copy, relay_drain, relay_forward, relay_image, relay_run};
+pub use interface::{Answer, Checked, Drained, Forwarded, Tally};
 
 /// A number, its detail and its place, as every refusal has them.
 pub type Refusal = (u8, u8, usize);
@@ -65,7 +26,7 @@ impl Forwarded {
 
 impl Drained {
     pub fn refused((number, detail, place): Refusal) -> Drained {
-        Drained { number, detail, place, forwards: 0, rounds: 0, quiet: false }
+        Drained { number, detail, place, forwards: 0, rounds: 0, quiet: 0 }
     }
 }
 
@@ -94,40 +55,29 @@ pub const SHORTCUTS: Engine = best::engine::<best::Shortcuts>();
 /// In the order of the turns and of the columns.
 pub const ALL: [Engine; 4] = [PROVED, PLAIN, BEST, SHORTCUTS];
 
-extern "C" {
-    fn relay_run(
-        state: *mut u8,
-        state_length: usize,
-        table: *const u8,
-        table_length: usize,
-        events: *const u8,
-        events_length: usize,
-        tally: *mut Tally,
-    ) -> Answer;
-    fn relay_forward(state: *mut u8, state_length: usize, table: *const u8, table_length: usize, peer: u8, message: u8) -> Forwarded;
-    fn relay_drain(state: *mut u8, state_length: usize, table: *const u8, table_length: usize, budget: u32) -> Drained;
-    fn relay_copy(from: *const u8, from_length: usize, to: *mut u8, to_length: usize) -> Checked;
-    fn relay_image(state: *const u8, state_length: usize, image: *mut u8, image_length: usize) -> Checked;
-}
-
-// What the header asks of a caller (pointers fit for their lengths, written buffers apart) holds for slices.
+// What the header asks of a caller holds for slices: pointers fit for their lengths, and what is lent for writing overlaps nothing.
 
 fn proved_run(state: &mut [u8], table: &[u8], events: &[u8], tally: &mut Tally) -> Answer {
+    // SAFETY: live buffers with their lengths; what is written is borrowed for it alone.
     unsafe { relay_run(state.as_mut_ptr(), state.len(), table.as_ptr(), table.len(), events.as_ptr(), events.len(), tally) }
 }
 
 fn proved_forward(state: &mut [u8], table: &[u8], peer: u8, message: u8) -> Forwarded {
+    // SAFETY: live buffers with their lengths; what is written is borrowed for it alone.
     unsafe { relay_forward(state.as_mut_ptr(), state.len(), table.as_ptr(), table.len(), peer, message) }
 }
 
 fn proved_drain(state: &mut [u8], table: &[u8], budget: u32) -> Drained {
+    // SAFETY: live buffers with their lengths; what is written is borrowed for it alone.
     unsafe { relay_drain(state.as_mut_ptr(), state.len(), table.as_ptr(), table.len(), budget) }
 }
 
 fn proved_copy(from: &[u8], to: &mut [u8]) -> Checked {
+    // SAFETY: live buffers with their lengths; what is written is borrowed for it alone.
     unsafe { relay_copy(from.as_ptr(), from.len(), to.as_mut_ptr(), to.len()) }
 }
 
 fn proved_image(state: &[u8], image: &mut [u8]) -> Checked {
+    // SAFETY: live buffers with their lengths; what is written is borrowed for it alone.
     unsafe { relay_image(state.as_ptr(), state.len(), image.as_mut_ptr(), image.len()) }
 }

@@ -180,7 +180,7 @@ pub fn drain(state: &mut [u8], tab: &[u8], budget: u32) -> Drained {
     };
     let (forwards, rounds, quiet) = n.drain(&topics, budget);
     write(&n, state);
-    Drained { number: 0, detail: 0, place: 0, forwards, rounds, quiet }
+    Drained { number: 0, detail: 0, place: 0, forwards, rounds, quiet: u8::from(quiet) }
 }
 
 /// Refused by 1 or 20 to 26.

@@ -35,9 +35,9 @@ tools=$own/toolchain
 "$own/bin/rattle-link" --target x86_64-unknown-linux-gnu --toolchain "$tools" -o "$program.x86_64" \
     "$program.o" "$library" 2>"$program.log" || { cat "$program.log" >&2; exit 1; }
 rm -f "$program.o" "$program.log"
-here=$(cd "$(dirname "$program")" && pwd)
+# The program is looked for beside the script, so that the two can be moved together.
 cat >"$program" <<EOF
 #!/bin/sh
-exec "$tools/bin/qemu-x86_64" "$tools/lib/ld-linux-x86-64.so.2" --library-path "$tools/lib" "$here/$(basename "$program").x86_64" "\$@"
+exec "$tools/bin/qemu-x86_64" "$tools/lib/ld-linux-x86-64.so.2" --library-path "$tools/lib" "\${0%/*}/$(basename "$program").x86_64" "\$@"
 EOF
 chmod +x "$program"

@@ -1,6 +1,7 @@
 #!/usr/bin/env bash
-# Builds the host over the engine's static library and tries all of it: the Rust crate's tests, the C example, the
-# examples with their stored output, and the tool's files. Ends with status 0 only if nothing differs.
+# Builds the host over the engine's static library and tries all of it: the Rust crate's tests, its text and papers (checks/crate.sh),
+# what is installed (checks/install.sh), the C example, the examples with their stored output, and the tool's files. Ends with
+# status 0 only if nothing differs.
 #
 #     bash host/test.sh
 #
@@ -55,6 +56,10 @@ cargo test --offline --locked --release --quiet --manifest-path host/Cargo.toml 
 verdict $? "cargo test"
 [ "$wrong" -eq 0 ] || cat "$room/tests"
 relay=${CARGO_TARGET_DIR:-$PWD/host/target}/release/relay
+
+. host/checks/crate.sh
+. host/checks/install.sh
+. host/checks/flood.sh
 
 sh host/link-c.sh "$library" "$room/example" host/example.c || exit 1
 gives 0 host/example.out "$room/example"

@@ -64,6 +64,7 @@ pub fn started(which: usize, process: u32) {
 
 /// The case that is compared from now on.
 pub fn case(words: &str) {
+    // SAFETY: one thread compares, and the handler of signals, which alone reads it besides, ends the process.
     let line = unsafe { &mut *addr_of_mut!(CASE) };
     line.length = 0;
     let _ = line.write_str(words);
@@ -71,6 +72,7 @@ pub fn case(words: &str) {
 
 /// A call begins: its time is counted from here.
 pub fn call() {
+    // SAFETY: it takes a number and touches no memory.
     unsafe { alarm(SECONDS) };
 }
 
@@ -85,6 +87,7 @@ pub fn watch() {
     let handler = ended as extern "C" fn(i32, *const u8, *const u8) as usize;
     let action = Action { handler, mask: [0; 16], flags: WITH_ADDRESS_ON_OWN_STACK, restorer: 0 };
     for signal in SIGNALS {
+        // SAFETY: `action` is laid out as the system has it and lives through the call; the old one is not asked for.
         unsafe { sigaction(signal, &action, std::ptr::null_mut()) };
     }
 }
@@ -107,6 +110,7 @@ fn nearest(address: usize) -> Option<(usize, isize)> {
 
 extern "C" fn ended(signal: i32, info: *const u8, _: *const u8) {
     let mut line = Line { bytes: [0; 400], length: 0 };
+    // SAFETY: nobody writes it while this runs, on the one thread that does.
     let case = unsafe { &*addr_of!(CASE) };
     let words = std::str::from_utf8(&case.bytes[..case.length]).unwrap_or("");
     let _ = write!(line, "\nDIFFERENCE {words}: ended by signal {signal}");
@@ -114,6 +118,7 @@ extern "C" fn ended(signal: i32, info: *const u8, _: *const u8) {
         let _ = write!(line, ", it runs on without end");
     }
     // The address stands at byte 16 of what the system tells about signals 7 and 11.
+    // SAFETY: the system hands over that many bytes and more, whatever the signal is.
     let address = unsafe { info.wrapping_add(16).cast::<usize>().read_unaligned() };
     if let Some((index, byte)) = nearest(address).filter(|_| signal == 7 || signal == 11) {
         let length = LENGTHS[index].load(Relaxed);
@@ -123,8 +128,10 @@ extern "C" fn ended(signal: i32, info: *const u8, _: *const u8) {
     }
     let _ = line.write_str("\ncompare: FAILED\n");
     for process in STARTED.iter().map(|process| process.load(Relaxed)).filter(|process| *process > 0) {
+        // SAFETY: it takes two numbers; the process is one that was started here.
         unsafe { kill(process, 9) };
     }
+    // SAFETY: `length` bytes of the line are written, and it has them; then the process ends.
     unsafe {
         write(1, line.bytes.as_ptr(), line.length);
         _exit(1)

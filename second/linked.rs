@@ -1,6 +1,9 @@
 //! The engine's static library linked into the comparison, for a host that the library is compiled for.
-//! A `&[u8]` or `&mut [u8]` of the engine passes as pointer, then length; its structs are repr(C). Which
-//! library it is, the last step of linking says (run.sh, mutants.sh).
+//! How its functions are called is declared in host/src/interface.rs, for all that call it from Rust; nothing
+//! else is shared. Which library it is, the last step of linking says (run.sh, mutants.sh).
+
+#[path = "../host/src/interface.rs"]
+mod interface;
 
 use crate::crash;
 use crate::flood;
@@ -9,70 +12,7 @@ use crate::model::{Answer, Checked, Drained, Forwarded};
 use crate::pages::Pages;
 use crate::process::truth;
 use crate::subject::{Call, Reply, Subject};
-
-#[repr(C)]
-struct CAnswer {
-    number: u8,
-    detail: u8,
-    place: usize,
-    accepted: usize,
-}
-
-#[repr(C)]
-struct CForwarded {
-    number: u8,
-    detail: u8,
-    place: usize,
-    deliveries: u32,
-}
-
-#[repr(C)]
-struct CDrained {
-    number: u8,
-    detail: u8,
-    place: usize,
-    forwards: u32,
-    rounds: u32,
-    /// A bool over there. Taken as a byte here, so that any other value than 0 and 1 is noticed.
-    quiet: u8,
-}
-
-#[repr(C)]
-struct CChecked {
-    number: u8,
-    detail: u8,
-    place: usize,
-}
-
-extern "C" {
-    fn relay_run(
-        state: *mut u8,
-        state_length: usize,
-        table: *const u8,
-        table_length: usize,
-        events: *const u8,
-        events_length: usize,
-        tally: *mut u64,
-    ) -> CAnswer;
-    fn relay_forward(
-        state: *mut u8,
-        state_length: usize,
-        table: *const u8,
-        table_length: usize,
-        peer: u8,
-        message: u8,
-    ) -> CForwarded;
-    fn relay_drain(
-        state: *mut u8,
-        state_length: usize,
-        table: *const u8,
-        table_length: usize,
-        budget: u32,
-    ) -> CDrained;
-    fn relay_image(state: *const u8, state_length: usize, image: *mut u8, image_length: usize) -> CChecked;
-    fn relay_check(state: *const u8, state_length: usize) -> CChecked;
-    fn relay_copy(from: *const u8, from_length: usize, to: *mut u8, to_length: usize) -> CChecked;
-}
+use interface::{relay_check, relay_copy, relay_drain, relay_forward, relay_image, relay_run};
 
 /// The engine, pages for its buffers, and the command of its run program if there is one.
 pub struct Linked {
@@ -94,7 +34,7 @@ impl Subject for Linked {
             crash::lies(index, start, buffer.length);
             parts.push((start, buffer.length));
         }
-        // Each pointer is that of live bytes of its own with their length, and no two overlap.
+        // SAFETY: each pointer is that of live bytes of its own with their length, and no two overlap.
         let reply = unsafe { make_call(call, &parts) };
         for (buffer, pages) in lent.iter_mut().zip(&mut self.pages) {
             pages.take_back(buffer);
@@ -113,17 +53,18 @@ unsafe fn make_call(call: Call, parts: &[(*mut u8, usize)]) -> Result<Reply, Str
         (Call::Copy, [(from, a), (to, b)]) => checked(relay_copy(*from, *a, *to, *b)),
         (Call::Run, [(state, a), (table, b), (events, c), (tally, _)]) => {
             let answer = relay_run(*state, *a, *table, *b, *events, *c, tally.cast());
-            let CAnswer { number, detail, place, accepted } = answer;
+            let interface::Answer { number, detail, place, accepted } = answer;
             Reply::Answer(Answer { number, detail, place, accepted })
         }
         (Call::Forward { peer, message }, [(state, a), (table, b)]) => {
             let answer = relay_forward(*state, *a, *table, *b, peer, message);
-            let CForwarded { number, detail, place, deliveries } = answer;
+            let interface::Forwarded { number, detail, place, deliveries } = answer;
             Reply::Forwarded(Forwarded { number, detail, place, deliveries })
         }
         (Call::Drain { budget }, [(state, a), (table, b)]) => {
             let answer = relay_drain(*state, *a, *table, *b, budget);
-            let CDrained { number, detail, place, forwards, rounds, quiet } = answer;
+            let interface::Drained { number, detail, place, forwards, rounds, quiet } = answer;
+            // The interface has C's bool as a byte, so that any other value than 0 and 1 is noticed.
             let quiet = truth(u64::from(quiet))?;
             Reply::Drained(Drained { number, detail, place, forwards, rounds, quiet })
         }
@@ -132,6 +73,6 @@ unsafe fn make_call(call: Call, parts: &[(*mut u8, usize)]) -> Result<Reply, Str
     })
 }
 
-fn checked(answer: CChecked) -> Reply {
+fn checked(answer: interface::Checked) -> Reply {
     Reply::Checked(Checked { number: answer.number, detail: answer.detail, place: answer.place })
 }

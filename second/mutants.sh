@@ -5,7 +5,8 @@
 # and bytes read or written that are not the engine's.
 #
 #   second/mutants.sh [--process] [NAME..]    all of them, or these; some minutes
-#   second/mutants.sh --gate                  those named below, after run.sh has compiled the comparison
+#   second/mutants.sh --gate                  those named below and a few that the commit picks, after run.sh has
+#                                             compiled the comparison
 #
 # The stand-in is linked as a static library where the machine links the engine; else, and with --process,
 # it is a process (which needs a C compiler for this machine).
@@ -19,10 +20,19 @@ gate='answers-modulo-65536 reads-beyond-events touches-table touches-refused-sta
 back-to-seen-orders same-round image-own-pending new-at-origin lowest-rule-first neighbour-by-neighbour highest-topic
 tally-kept reads-once'
 
+# Every twenty-fourth of the others, beginning where the commit's hash says, so that each has its turn in a gate.
+picked() {
+    commit=$(git rev-parse HEAD 2>/dev/null) || commit=0
+    first=$((0x$(printf '%.6s' "$commit") % 24))
+    sed -n 's/^slip \([^ ]*\) .*/\1/p' second/slips.sh | while read -r name; do
+        case " $(echo $gate) " in *" $name "*) ;; *) echo "$name" ;; esac
+    done | awk -v first="$first" 'NR % 24 == first'
+}
+
 wanted='' share=5 ready=''
 while [ $# -gt 0 ]; do
     case $1 in
-    --gate) wanted=$gate share=2 ready=yes ;;
+    --gate) wanted="$gate $(picked)" share=2 ready=yes ;;
     --process) route=process ;;
     *) wanted="$wanted $1" ;;
     esac
@@ -31,7 +41,9 @@ done
 wanted=" $(echo $wanted) " # single spaces
 all=$out/mutants
 rm -rf "$all"
-mkdir -p "$all"
+# The copies look for the declarations of the engine's interface where the original does: beside their folder.
+mkdir -p "$all/host/src"
+cp host/src/interface.rs "$all/host/src/"
 [ -n "$ready" ] || compile_compare "$route"
 found=0 missed=''
 
@@ -57,7 +69,7 @@ with_engine() { # COPY
         link_compare "$1/compare" "$1/libengine.a"
         command=$1/compare
     else
-        ${CC:-cc} -O2 second/shim.c "$1/libengine.a" -lpthread -ldl -lm -o "$1/shim"
+        ${CC:-cc} -O2 -I host second/shim.c "$1/libengine.a" -lpthread -ldl -lm -o "$1/shim"
         command="$all/compare --engine $1/shim ;"
     fi
 }

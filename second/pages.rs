@@ -26,6 +26,7 @@ pub struct Pages {
 impl Pages {
     pub fn new() -> Pages {
         let length = PAGE + SPACE + PAGE;
+        // SAFETY: new pages anywhere; nothing that is there is touched.
         let start = unsafe { mmap(std::ptr::null_mut(), length, NONE, PRIVATE_ANONYMOUS, -1, 0) };
         assert!(start as isize != -1, "no pages");
         Pages { first: start.wrapping_add(PAGE), open: 0 }
@@ -33,6 +34,7 @@ impl Pages {
 
     fn protect(&self, from: usize, length: usize, rights: i32) {
         if length > 0 {
+            // SAFETY: within the pages that `new` took, by what `lay` asserts of a buffer's length.
             let done = unsafe { mprotect(self.first.wrapping_add(from), length, rights) };
             assert_eq!(done, 0, "the rights of a page cannot be set");
         }
@@ -47,6 +49,7 @@ impl Pages {
             self.protect(length, SPACE - length, NONE);
             self.open = length;
         }
+        // SAFETY: `length` bytes are there, and so many were just opened here for writing; the two are apart.
         unsafe { std::ptr::copy_nonoverlapping(lent.whole.as_ptr(), self.first, length) };
         if lent.locked {
             self.protect(0, length, READ);
@@ -59,6 +62,7 @@ impl Pages {
         if lent.locked {
             self.protect(0, self.open, READ_WRITE);
         }
+        // SAFETY: `open` is the length of the buffer that was laid out here, and these bytes can be read; the two are apart.
         unsafe { std::ptr::copy_nonoverlapping(self.first, lent.whole.as_mut_ptr(), self.open) };
     }
 }

@@ -45,8 +45,11 @@ under_kit() { # PROGRAM: the words that start it, each on a line
     printf '%s\n' "$tools/lib/ld-linux-x86-64.so.2" --library-path "$tools/lib" "$1"
 }
 
-# The library as a process: with the kit's own compiler and linker, so that it is one and the same everywhere.
-"$tools/bin/clang" --target=x86_64-unknown-linux-gnu -O2 -Wall -c second/shim.c -o "$out/shim.o"
+# The library as a process: with the kit's own compiler and linker, so that it is one and the same everywhere. The kit has
+# no C headers; those of this machine, which its C compiler lists, serve for the sizes that host/relay.h needs.
+headers=$(cc -E -Wp,-v -xc /dev/null -o /dev/null 2>&1 | sed -n 's/^ /-isystem /p')
+# shellcheck disable=SC2086
+"$tools/bin/clang" --target=x86_64-unknown-linux-gnu -O2 -Wall -I host $headers -c second/shim.c -o "$out/shim.o"
 "$tools/bin/ld.lld" -pie -o "$out/shim" \
     "$tools/lib/Scrt1.o" "$tools/lib/crti.o" "$tools/lib/crtbeginS.o" "$out/shim.o" "$library" \
     "$tools/lib/libc.so.6" "$tools/lib/libc_nonshared.a" "$tools/lib/libgcc.a" \

@@ -1,24 +1,14 @@
 /* The engine's static library as a process: takes calls on standard input, answers on standard output.
    Meant for a host that cannot link the library, which is for x86-64 alone. It knows no rule of 01: it
    lays the lent buffers out as they come, guards and all, in pages of their own between pages without
-   access, makes the call and sends everything back. process.rs has the other end. No header is needed. */
+   access, makes the call and sends everything back. process.rs has the other end. How the engine is called
+   is declared in host/relay.h. */
+
+#include "relay.h"
 
 typedef unsigned char u8;
 typedef unsigned int u32;
 typedef unsigned long u64;
-
-struct tally { u64 produced, forwards, deliveries; };
-struct answer { u8 number, detail; u64 place, accepted; };
-struct forwarded { u8 number, detail; u64 place; u32 deliveries; };
-struct drained { u8 number, detail; u64 place; u32 forwards, rounds; u8 quiet; };
-struct checked { u8 number, detail; u64 place; };
-
-struct answer relay_run(u8 *state, u64 a, const u8 *table, u64 b, const u8 *events, u64 c, struct tally *tally);
-struct forwarded relay_forward(u8 *state, u64 a, const u8 *table, u64 b, u8 peer, u8 message);
-struct drained relay_drain(u8 *state, u64 a, const u8 *table, u64 b, u32 budget);
-struct checked relay_image(const u8 *state, u64 a, u8 *image, u64 b);
-struct checked relay_check(const u8 *state, u64 a);
-struct checked relay_copy(const u8 *from, u64 a, u8 *to, u64 b);
 
 long read(int file, void *bytes, u64 count);
 long write(int file, const void *bytes, u64 count);
@@ -69,20 +59,20 @@ static void make_call(const struct head *head, u64 reply[6])
     u8 *x = room[0] + lent[0].start, *y = room[1] + lent[1].start, *z = room[2] + lent[2].start;
     u64 a = lent[0].length, b = lent[1].length, c = lent[2].length;
     if (head->call == 2) {
-        struct tally *tally = (struct tally *)(room[3] + lent[3].start);
-        struct answer answer = relay_run(x, a, y, b, z, c, tally);
+        relay_tally *tally = (relay_tally *)(room[3] + lent[3].start);
+        relay_answer answer = relay_run(x, a, y, b, z, c, tally);
         reply[0] = answer.number, reply[1] = answer.detail, reply[2] = answer.place;
         reply[3] = answer.accepted;
     } else if (head->call == 3) {
-        struct forwarded answer = relay_forward(x, a, y, b, (u8)head->first, (u8)head->second);
+        relay_forwarded answer = relay_forward(x, a, y, b, (u8)head->first, (u8)head->second);
         reply[0] = answer.number, reply[1] = answer.detail, reply[2] = answer.place;
         reply[3] = answer.deliveries;
     } else if (head->call == 4) {
-        struct drained answer = relay_drain(x, a, y, b, (u32)head->first);
+        relay_drained answer = relay_drain(x, a, y, b, (u32)head->first);
         reply[0] = answer.number, reply[1] = answer.detail, reply[2] = answer.place;
-        reply[3] = answer.forwards, reply[4] = answer.rounds, reply[5] = answer.quiet;
+        reply[3] = answer.forwards, reply[4] = answer.rounds, reply[5] = *(const u8 *)&answer.quiet; /* the byte: a bool other than 0 and 1 is noticed */
     } else {
-        struct checked answer = head->call == 0 ? relay_check(x, a)
+        relay_checked answer = head->call == 0 ? relay_check(x, a)
                               : head->call == 1 ? relay_copy(x, a, y, b)
                                                 : relay_image(x, a, y, b);
         reply[0] = answer.number, reply[1] = answer.detail, reply[2] = answer.place;

@@ -54,10 +54,10 @@ slip detail-of-22 calls.rs 's/detail: fault.detail()/detail: if fault.number() =
 slip detail-of-26 soundness.rs 's/ | Fault::PendingAndSeen => 0/ => 0, Fault::PendingAndSeen => 1/'
 slip detail-of-an-event calls.rs 's/Answer { number, detail: 0, place, accepted: place }/Answer { number, detail: bytes[1], place, accepted: place }/'
 slip detail-of-a-drain calls.rs 's/Drained { number: 0, detail: 0, place: 0, forwards/Drained { number: 0, detail: rounds as u8, place: 0, forwards/'
-without='fn without(answer: Checked) -> CChecked { CChecked(answer.number, 0, answer.place) }'
-slip run-without-detail standin.rs 's/CAnswer(number, detail,/CAnswer(number, 0,/'
-slip forward-without-detail standin.rs 's/CForwarded(number, detail,/CForwarded(number, 0,/'
-slip drain-without-detail standin.rs 's/CDrained(number, detail,/CDrained(number, 0,/'
+without='fn without(answer: Checked) -> CChecked { CChecked { number: answer.number, detail: 0, place: answer.place } }'
+slip run-without-detail standin.rs 's/CAnswer { number, detail,/CAnswer { number, detail: 0,/'
+slip forward-without-detail standin.rs 's/CForwarded { number, detail,/CForwarded { number, detail: 0,/'
+slip drain-without-detail standin.rs 's/CDrained { number, detail,/CDrained { number, detail: 0,/'
 slip image-without-detail standin.rs "/^pub unsafe extern \"C\" fn relay_image/,/^}/s/^    checked(/    without(/; \$a $without"
 slip check-without-detail standin.rs "/^pub unsafe extern \"C\" fn relay_check/,/^}/s/^    checked(/    without(/; \$a $without"
 slip copy-without-detail standin.rs "/^pub unsafe extern \"C\" fn relay_copy/,/^}/s/^    checked(/    without(/; \$a $without"
@@ -102,10 +102,10 @@ slip image-keeps-links calls.rs 's/^            pubs: record.pubs.clone(),/     
 slip copy-clears calls.rs '/^pub fn copy/,/^}/s/^    checked(read/    to.fill(0);\n    checked(read/'
 
 # 16 bits where more are needed
-slip answers-modulo-65536 standin.rs 's/CAnswer(number, detail, place, accepted)/CAnswer(number, detail, place % 65536, accepted % 65536)/' '--only long'
-slip accepted-modulo-65536 standin.rs 's/CAnswer(number, detail, place, accepted)/CAnswer(number, detail, place, accepted % 65536)/' '--only long'
-slip produced-modulo-65536 standin.rs 's/CTally(own.produced, /CTally(own.produced % 65536, /' '--only long'
-slip deliveries-modulo-65536 standin.rs 's/, own.deliveries);/, own.deliveries % 65536);/' '--only long'
+slip answers-modulo-65536 standin.rs 's/CAnswer { number, detail, place, accepted }/CAnswer { number, detail, place: place % 65536, accepted: accepted % 65536 }/' '--only long'
+slip accepted-modulo-65536 standin.rs 's/CAnswer { number, detail, place, accepted }/CAnswer { number, detail, place, accepted: accepted % 65536 }/' '--only long'
+slip produced-modulo-65536 standin.rs 's/= CTally { produced, /= CTally { produced: produced % 65536, /' '--only long'
+slip deliveries-modulo-65536 standin.rs 's/= CTally { produced, forwards, deliveries }/= CTally { produced, forwards, deliveries: deliveries % 65536 }/' '--only long'
 slip stops-at-65536 calls.rs 's/in events.chunks(EVENT_SIZE).enumerate() {/in events.chunks(EVENT_SIZE).enumerate().take(65536) {/' '--only long'
 
 # bytes that are not its own, or not lent to be written; "touch" writes a byte and puts the old one back

@@ -1,24 +1,31 @@
 //! A stand-in for the engine's static library: the same C functions, done by the model. It tries the
 //! comparison's own machinery and carries the planted slips of slips.sh.
 
+#[allow(dead_code)]
+#[path = "../host/src/interface.rs"]
+mod interface;
 mod model;
 
+use interface::{
+    Answer as CAnswer, Checked as CChecked, Drained as CDrained, Forwarded as CForwarded, Tally as CTally,
+};
 use model::{calls, Answer, Checked, Drained, Forwarded, Tally};
 use std::slice::{from_raw_parts, from_raw_parts_mut};
 
-#[repr(C)]
-pub struct CTally(u64, u64, u64);
-#[repr(C)]
-pub struct CAnswer(u8, u8, usize, usize);
-#[repr(C)]
-pub struct CForwarded(u8, u8, usize, u32);
-#[repr(C)]
-pub struct CDrained(u8, u8, usize, u32, u32, bool);
-#[repr(C)]
-pub struct CChecked(u8, u8, usize);
+/// Each function below is the one that the interface declares: this is not compiled otherwise.
+#[allow(dead_code)]
+fn as_declared() {
+    let _ = [interface::relay_run, relay_run];
+    let _ = [interface::relay_forward, relay_forward];
+    let _ = [interface::relay_drain, relay_drain];
+    let _ = [interface::relay_image, relay_image];
+    let _ = [interface::relay_check, relay_check];
+    let _ = [interface::relay_copy, relay_copy];
+}
 
 fn checked(answer: Checked) -> CChecked {
-    CChecked(answer.number, answer.detail, answer.place)
+    let Checked { number, detail, place } = answer;
+    CChecked { number, detail, place }
 }
 
 #[no_mangle]
@@ -34,14 +41,16 @@ pub unsafe extern "C" fn relay_run(
     let state = from_raw_parts_mut(state, state_length);
     let table = from_raw_parts(table, table_length);
     let events = from_raw_parts(events, events_length);
-    let before = Tally { produced: (*tally).0, forwards: (*tally).1, deliveries: (*tally).2 };
+    let CTally { produced, forwards, deliveries } = *tally;
+    let before = Tally { produced, forwards, deliveries };
     let mut own = before;
     let Answer { number, detail, place, accepted } = calls::run(state, table, events, &mut own);
     // A tally that stays as it is stays untouched.
     if own != before {
-        *tally = CTally(own.produced, own.forwards, own.deliveries);
+        let Tally { produced, forwards, deliveries } = own;
+        *tally = CTally { produced, forwards, deliveries };
     }
-    CAnswer(number, detail, place, accepted)
+    CAnswer { number, detail, place, accepted }
 }
 
 #[no_mangle]
@@ -56,7 +65,7 @@ pub unsafe extern "C" fn relay_forward(
     let state = from_raw_parts_mut(state, state_length);
     let table = from_raw_parts(table, table_length);
     let Forwarded { number, detail, place, deliveries } = calls::forward(state, table, peer, message);
-    CForwarded(number, detail, place, deliveries)
+    CForwarded { number, detail, place, deliveries }
 }
 
 #[no_mangle]
@@ -70,7 +79,7 @@ pub unsafe extern "C" fn relay_drain(
     let state = from_raw_parts_mut(state, state_length);
     let table = from_raw_parts(table, table_length);
     let Drained { number, detail, place, forwards, rounds, quiet } = calls::drain(state, table, budget);
-    CDrained(number, detail, place, forwards, rounds, quiet)
+    CDrained { number, detail, place, forwards, rounds, quiet: u8::from(quiet) }
 }
 
 #[no_mangle]

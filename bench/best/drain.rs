@@ -26,7 +26,7 @@ pub fn drain<'a, F: Form>(n: &mut State, table: &F::Table<'a>, budget: u32) -> D
         holders = round::<F>(n, table, &by_topic, &mut words, &listed);
     }
     store(n, &words);
-    Drained { number: 0, detail: 0, place: 0, forwards, rounds, quiet: holders == 0 && !cut }
+    Drained { number: 0, detail: 0, place: 0, forwards, rounds, quiet: u8::from(holders == 0 && !cut) }
 }
 
 fn load(n: &State) -> Words {

@@ -4,8 +4,34 @@ use crate::numbers::{Message, Number, Peer, Set, Topic};
 use crate::refusal::{Reason, Refusal};
 use std::fmt;
 
-/// An event carries only its own fields.
+/// An event carries only its own fields. A later engine may have more kinds, so a `match` needs an arm for those:
+///
+/// ```
+/// # use relay_host::Event;
+/// fn is_leave(event: &Event) -> bool {
+///     match event {
+///         Event::Leave(_) => true,
+///         Event::Skip | Event::Produce(..) | Event::Forward(..) | Event::Join(..) => false,
+///         Event::Subscribe(..) | Event::Unsubscribe(..) => false,
+///         _ => false,
+///     }
+/// }
+/// assert!(is_leave(&"leave 3".parse().unwrap()));
+/// ```
+///
+/// ```compile_fail
+/// # use relay_host::Event;
+/// fn is_leave(event: &Event) -> bool {
+///     match event {
+///         Event::Leave(_) => true,
+///         Event::Skip | Event::Produce(..) | Event::Forward(..) | Event::Join(..) => false,
+///         Event::Subscribe(..) | Event::Unsubscribe(..) => false,
+///     }
+/// }
+/// assert!(is_leave(&"leave 3".parse().unwrap()));
+/// ```
 #[derive(Clone, Copy, Debug, PartialEq, Eq)]
+#[non_exhaustive]
 pub enum Event {
     Skip,
     Produce(Peer, Message),
@@ -70,7 +96,10 @@ impl Event {
 
     /// The event of a record: refused for an unknown code, then for a field out of range or an unused byte not zero.
     pub fn decode(record: &[u8; RECORD]) -> Result<Event, Reason> {
-        let word = |at: usize| u64::from(u32::from_le_bytes(record[at..at + 4].try_into().expect("four bytes")));
+        let word = |at: usize| {
+            let bytes = [record[at], record[at + 1], record[at + 2], record[at + 3]];
+            u64::from(u32::from_le_bytes(bytes))
+        };
         if record[0] > 6 {
             return Err(Reason::UnknownCode);
         }
@@ -101,8 +130,9 @@ impl Event {
     }
 }
 
+/// The word of a set of peers or topics: its upper half is zero.
 fn half<N: Number>(set: Set<N>) -> u32 {
-    u32::try_from(set.word()).expect("a set of peers or topics has 32 bits")
+    (set.word() & u64::from(u32::MAX)) as u32
 }
 
 /// The event as a line of text, which `text` reads back.
@@ -136,15 +166,19 @@ fn write_set<N: Number>(out: &mut fmt::Formatter, keyword: &str, set: Set<N>) ->
 /// The events of a record file, up to the first record that is none: refused by 3, then by 6 or 7.
 pub fn decode_all(records: &[u8]) -> (Vec<Event>, Option<Refusal>) {
     let mut events = Vec::new();
-    let whole = records.chunks_exact(RECORD);
-    if !whole.remainder().is_empty() {
+    if records.len() % RECORD != 0 {
         return (events, Some(Refusal::at(Reason::EventsLength, 0)));
     }
-    for (place, record) in whole.enumerate() {
-        match Event::decode(record.try_into().expect("sixteen bytes")) {
+    let mut left = records;
+    while let Some((record, rest)) = left.split_first_chunk() {
+        match Event::decode(record) {
             Ok(event) => events.push(event),
-            Err(reason) => return (events, Some(Refusal::at(reason, place))),
+            Err(reason) => {
+                let place = events.len();
+                return (events, Some(Refusal::at(reason, place)));
+            }
         }
+        left = rest;
     }
     (events, None)
 }

@@ -9,12 +9,13 @@
 //!     let event: Event = line.parse().unwrap();
 //!     network.apply(&table, &event).unwrap();
 //! }
-//! let drained = network.drain(&table, relay_host::ENOUGH);
+//! let drained = network.drain(&table, relay_host::ENOUGH).unwrap();
 //! assert!(drained.quiet && drained.forwards == 2 && drained.rounds == 2);
 //! ```
 //!
 //! What is proved is the engine; this crate is plain Rust that hands it bytes. A [`Network`] is made blank or by a read
-//! that the engine accepted, and only the engine changes it, so it is sound at any time. Where to look:
+//! that the engine accepted, and only the engine changes it, so it is sound at any time. No function of this crate panics: what
+//! the engine refuses, and an engine that can't be reached, are [`Refusal`]s. Where to look:
 //!
 //! | module | holds |
 //! |---|---|
@@ -26,20 +27,27 @@
 //! | [`text`] | the same events as lines of text |
 //! | [`network`] | networks, message tables and images |
 
+#![deny(missing_debug_implementations, unsafe_code)]
+
 #[cfg(bridged)]
 mod bridge;
 pub mod event;
 pub mod fault;
 #[cfg(not(bridged))]
+#[allow(unsafe_code)]
 mod ffi;
+#[cfg_attr(bridged, allow(dead_code))]
+mod interface;
 pub mod network;
 pub mod numbers;
 pub mod raw;
 pub mod refusal;
 pub mod text;
+mod text_error;
 
 pub use event::{Event, Joining};
 pub use network::{Desk, Drained, Image, Network, Row, Run, Table, ENOUGH};
 pub use numbers::{Message, Number, Peer, Set, Topic};
 pub use raw::Tally;
 pub use refusal::{Reason, Refusal};
+pub use text::TextError;

@@ -1,9 +1,9 @@
 //! Networks, message tables and images: bytes that the engine has accepted, with names for what they hold.
 
 use crate::event::Event;
-use crate::numbers::{Message, Number, Peer, Set, Topic};
+use crate::numbers::{sealed::Sort, Message, Number, Peer, Set, Topic};
 use crate::raw::{self, Tally};
-use crate::refusal::Refusal;
+use crate::refusal::{Reason, Refusal};
 use std::fmt;
 
 pub(crate) const STATE: usize = 5120;
@@ -21,6 +21,12 @@ pub struct Network {
 }
 
 /// How a run went: the accepted events' count and tally, and why it stopped, if it did.
+///
+/// ```compile_fail
+/// #![deny(unused_must_use)]
+/// relay_host::Network::blank().run(&relay_host::Table::zero(), &[]);
+/// ```
+#[must_use = "the refusal says whether the run stopped"]
 #[derive(Clone, Copy, Debug, PartialEq, Eq)]
 pub struct Run {
     pub accepted: usize,
@@ -29,6 +35,24 @@ pub struct Run {
 }
 
 /// How a drain went: the forwards made, the rounds finished, and whether nothing is pending.
+///
+/// ```
+/// # fn main() -> Result<(), relay_host::Refusal> {
+/// #![deny(unused_must_use)]
+/// let _ = relay_host::Network::blank().drain(&relay_host::Table::zero(), 1)?;
+/// let _ = relay_host::Network::blank().run(&relay_host::Table::zero(), &[]);
+/// # Ok(())
+/// # }
+/// ```
+///
+/// ```compile_fail
+/// # fn main() -> Result<(), relay_host::Refusal> {
+/// #![deny(unused_must_use)]
+/// relay_host::Network::blank().drain(&relay_host::Table::zero(), 1)?;
+/// # Ok(())
+/// # }
+/// ```
+#[must_use = "whether it is quiet says whether the budget was enough"]
 #[derive(Clone, Copy, Debug, PartialEq, Eq)]
 pub struct Drained {
     pub forwards: u32,
@@ -37,6 +61,7 @@ pub struct Drained {
 }
 
 impl Network {
+    /// Nobody is present.
     pub fn blank() -> Network {
         Network { bytes: Box::new([0; STATE]) }
     }
@@ -84,19 +109,20 @@ impl Network {
         Ok(forwarded.deliveries)
     }
 
-    /// Forwards by rounds until nothing is pending or the budget is spent.
-    pub fn drain(&mut self, table: &Table, budget: u32) -> Drained {
+    /// Forwards by rounds until nothing is pending or the budget is spent. By what is proved the engine refuses no sound network
+    /// with a good table, so that the one refusal here is [`Reason::NoEngine`].
+    pub fn drain(&mut self, table: &Table, budget: u32) -> Result<Drained, Refusal> {
         let drained = raw::drain(&mut self.bytes[..], table.bytes(), budget);
-        accepted(drained.number, drained.place, drained.detail);
-        Drained { forwards: drained.forwards, rounds: drained.rounds, quiet: drained.quiet }
+        Refusal::of_answer(drained.number, drained.place, drained.detail)?;
+        Ok(Drained { forwards: drained.forwards, rounds: drained.rounds, quiet: drained.quiet })
     }
 
-    /// The commitment image.
-    pub fn image(&self) -> Image {
+    /// The commitment image. As with a drain, the one refusal here is [`Reason::NoEngine`].
+    pub fn image(&self) -> Result<Image, Refusal> {
         let mut bytes = Box::new([0; STATE]);
         let checked = raw::image(self.bytes(), &mut bytes[..]);
-        accepted(checked.number, checked.place, checked.detail);
-        Image { bytes }
+        Refusal::of_answer(checked.number, checked.place, checked.detail)?;
+        Ok(Image { bytes })
     }
 
     /// What the network holds of a peer; none if it is absent.
@@ -121,13 +147,6 @@ impl Network {
             having.map(|(peer, _)| peer).collect()
         };
         (where_in(|desk| desk.pending), where_in(|desk| desk.seen))
-    }
-}
-
-/// For calls that a sound network and a good table leave nothing to refuse.
-fn accepted(number: u8, place: usize, detail: u8) {
-    if let Err(refusal) = Refusal::of_answer(number, place, detail) {
-        panic!("the engine refused a sound network: {refusal}");
     }
 }
 
@@ -187,7 +206,14 @@ pub struct Image {
     bytes: Box<[u8; STATE]>,
 }
 
+impl fmt::Debug for Image {
+    fn fmt(&self, out: &mut fmt::Formatter) -> fmt::Result {
+        out.debug_map().entries(self.desks()).finish()
+    }
+}
+
 impl Image {
+    /// The image's 5,120 bytes, which are a state's, too.
     pub fn bytes(&self) -> &[u8] {
         &self.bytes[..]
     }
@@ -205,10 +231,17 @@ pub struct Row {
     pub origin: Peer,
 }
 
-/// A message table that the engine accepts.
+/// A message table that the engine accepts. Its rows can be printed with `{:?}`, those that aren't zero.
 #[derive(Clone, PartialEq, Eq)]
 pub struct Table {
     bytes: Box<[u8; TABLE]>,
+}
+
+impl fmt::Debug for Table {
+    fn fmt(&self, out: &mut fmt::Formatter) -> fmt::Result {
+        let rows = Message::all().map(|message| (message, self.row(message)));
+        out.debug_map().entries(rows.filter(|(_, row)| row.topic.get() != 0 || row.origin.get() != 0)).finish()
+    }
 }
 
 impl Table {
@@ -222,9 +255,10 @@ impl Table {
         let mut blank = Network::blank();
         let answer = raw::run(&mut blank.bytes[..], bytes, &[], &mut Tally::default());
         Refusal::of_answer(answer.number, answer.place, answer.detail)?;
-        let mut table = Table::zero();
-        table.bytes.copy_from_slice(bytes);
-        Ok(table)
+        match bytes.try_into() {
+            Ok(bytes) => Ok(Table { bytes: Box::new(bytes) }),
+            Err(_) => Err(Refusal::at(Reason::TableLength, 0)),
+        }
     }
 
     /// The table's 256 bytes: what `read` takes.
@@ -232,13 +266,13 @@ impl Table {
         &self.bytes[..]
     }
 
+    /// What a message number stands for.
     pub fn row(&self, message: Message) -> Row {
         let at = usize::from(message.get()) * ROW;
-        let topic = Topic::new(self.bytes[at]).expect("a table's topics are in range");
-        let origin = Peer::new(self.bytes[at + 1]).expect("a table's origins are in range");
-        Row { topic, origin }
+        Row { topic: Topic::of_low_bits(self.bytes[at]), origin: Peer::of_low_bits(self.bytes[at + 1]) }
     }
 
+    /// Says what a message number stands for.
     pub fn set(&mut self, message: Message, row: Row) {
         let at = usize::from(message.get()) * ROW;
         self.bytes[at] = row.topic.get();

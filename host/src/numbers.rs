@@ -1,16 +1,46 @@
 //! Peer, topic and message numbers, and sets of them. They are separate types: none can stand where another is meant.
 
+use crate::text::{self, TextError};
 use std::fmt;
 use std::marker::PhantomData;
+use std::str::FromStr;
 
-/// A number of one of the three sorts.
-pub trait Number: Copy + Eq {
+/// The three sorts are all there are: a set's word has room for them, and for no others.
+pub(crate) mod sealed {
+    pub trait Sort: Sized {
+        /// The number of a byte's low bits: the byte itself where it is known to be in range.
+        fn of_low_bits(byte: u8) -> Self;
+    }
+}
+
+/// A number of one of the three sorts. No other type can be one.
+///
+/// ```
+/// use relay_host::{Message, Number, Peer};
+///
+/// assert_eq!(Peer::new(32), None);
+/// let five: Message = "5".parse().unwrap();
+/// assert_eq!(five.get(), 5);
+/// assert_eq!("64".parse::<Message>().unwrap_err().to_string(), "there is no message 64: messages are 0 to 63");
+/// ```
+///
+/// ```compile_fail
+/// #[derive(Clone, Copy, Debug, PartialEq, Eq)]
+/// struct Huge(u8);
+/// impl relay_host::numbers::sealed::Sort for Huge {
+///     fn of_low_bits(byte: u8) -> Huge {
+///         Huge(byte)
+///     }
+/// }
+/// ```
+pub trait Number: sealed::Sort + Copy + Eq + fmt::Debug + fmt::Display + FromStr<Err = TextError> {
     /// What it is called.
     const NOUN: &'static str;
     /// The first number that is out of range.
     const BELOW: u8;
     /// The number, unless it is out of range.
     fn new(number: u8) -> Option<Self>;
+    /// The number itself.
     fn get(self) -> u8;
     /// All numbers of the sort, rising.
     fn all() -> impl Iterator<Item = Self> {
@@ -34,6 +64,21 @@ macro_rules! number {
 
             fn get(self) -> u8 {
                 self.0
+            }
+        }
+
+        impl sealed::Sort for $Name {
+            fn of_low_bits(byte: u8) -> $Name {
+                $Name(byte % $below)
+            }
+        }
+
+        /// The number as a line of text has it: decimal digits.
+        impl FromStr for $Name {
+            type Err = TextError;
+
+            fn from_str(word: &str) -> Result<$Name, TextError> {
+                text::number(word)
             }
         }
 

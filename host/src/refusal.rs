@@ -1,66 +1,110 @@
 //! Why the engine refuses: the numbers that it answers, in the words of docs/RULES.md (6).
 
+use crate::raw::NO_ENGINE;
 use std::error::Error;
 use std::fmt;
 
-/// The number of a refusal. `reason as u8` is the number itself.
+/// Why something is refused: `reason.number()` is the engine's number. A later engine may have more of them, so a `match` needs an
+/// arm for those:
+///
+/// ```compile_fail
+/// # use relay_host::Reason::{self, *};
+/// # fn row(reason: Reason) -> bool {
+/// match reason {
+///     TableRow => true,
+///     StateLength | TableLength | EventsLength | UnknownCode | BadField | PeerAbsent | AlreadyPresent => false,
+///     NotOrigin | NotPublished | NotNew | NotPending | StillPending | OwnNeighbour | NeighbourAbsent => false,
+///     InputLength | ImageLength | PresenceByte | AbsentNotEmpty | ListsItself | NeighbourNotPresent => false,
+///     NotListedBack | KnownSubscribersWrong | PendingAlsoSeen => false,
+///     NoEngine | Unknown(_) => false,
+/// }
+/// # }
+/// ```
 #[derive(Clone, Copy, Debug, PartialEq, Eq, Hash)]
-#[repr(u8)]
+#[non_exhaustive]
 pub enum Reason {
-    StateLength = 1,
-    TableLength = 2,
-    EventsLength = 3,
-    TableRow = 4,
-    UnknownCode = 6,
-    BadField = 7,
-    PeerAbsent = 8,
-    AlreadyPresent = 9,
-    NotOrigin = 10,
-    NotPublished = 11,
-    NotNew = 12,
-    NotPending = 13,
-    StillPending = 14,
-    OwnNeighbour = 15,
-    NeighbourAbsent = 16,
-    InputLength = 17,
-    ImageLength = 18,
-    PresenceByte = 20,
-    AbsentNotEmpty = 21,
-    ListsItself = 22,
-    NeighbourNotPresent = 23,
-    NotListedBack = 24,
-    KnownSubscribersWrong = 25,
-    PendingAlsoSeen = 26,
+    /// 1: state isn't 5,120 bytes.
+    StateLength,
+    /// 2: message table isn't 256 bytes.
+    TableLength,
+    /// 3: event bytes aren't a multiple of 16.
+    EventsLength,
+    /// 4: a message row has topic or origin above 31, or bytes 2-3 not zero.
+    TableRow,
+    /// 6: unknown code.
+    UnknownCode,
+    /// 7: peer above 31, message above 63, or an unused byte not zero.
+    BadField,
+    /// 8: peer absent.
+    PeerAbsent,
+    /// 9: joining peer already present.
+    AlreadyPresent,
+    /// 10: producing peer isn't the message's origin.
+    NotOrigin,
+    /// 11: topic not in the peer's pubs.
+    NotPublished,
+    /// 12: message not new.
+    NotNew,
+    /// 13: message not pending at this peer.
+    NotPending,
+    /// 14: leaver has something pending.
+    StillPending,
+    /// 15: joining peer names itself as neighbour.
+    OwnNeighbour,
+    /// 16: a named neighbour is absent.
+    NeighbourAbsent,
+    /// 17: input above 65,536 bytes.
+    InputLength,
+    /// 18: image buffer isn't 5,120 bytes.
+    ImageLength,
+    /// 20: presence byte or zero bytes.
+    PresenceByte,
+    /// 21: absent record not empty.
+    AbsentNotEmpty,
+    /// 22: own neighbour.
+    ListsItself,
+    /// 23: neighbour absent.
+    NeighbourNotPresent,
+    /// 24: neighbour doesn't list back.
+    NotListedBack,
+    /// 25: known subscribers wrong.
+    KnownSubscribersWrong,
+    /// 26: pending also seen.
+    PendingAlsoSeen,
+    /// No number of the engine: its process can't be started, or doesn't answer ([`NO_ENGINE`]).
+    NoEngine,
+    /// A number that this crate doesn't know. The engine that it was made for answers none; that is proved.
+    Unknown(u8),
 }
 
 use Reason::*;
 
-/// Every reason beside its meaning, in the order of the numbers.
-const MEANINGS: [(Reason, &str); 24] = [
-    (StateLength, "state isn't 5,120 bytes"),
-    (TableLength, "message table isn't 256 bytes"),
-    (EventsLength, "event bytes aren't a multiple of 16"),
-    (TableRow, "a message row has topic or origin above 31, or bytes 2-3 not zero"),
-    (UnknownCode, "unknown code"),
-    (BadField, "peer above 31, message above 63, or an unused byte not zero"),
-    (PeerAbsent, "peer absent"),
-    (AlreadyPresent, "joining peer already present"),
-    (NotOrigin, "producing peer isn't the message's origin"),
-    (NotPublished, "topic not in the peer's pubs"),
-    (NotNew, "message not new"),
-    (NotPending, "message not pending at this peer"),
-    (StillPending, "leaver has something pending"),
-    (OwnNeighbour, "joining peer names itself as neighbour"),
-    (NeighbourAbsent, "a named neighbour is absent"),
-    (InputLength, "input above 65,536 bytes"),
-    (ImageLength, "image buffer isn't 5,120 bytes"),
-    (PresenceByte, "presence byte or zero bytes"),
-    (AbsentNotEmpty, "absent record not empty"),
-    (ListsItself, "own neighbour"),
-    (NeighbourNotPresent, "neighbour absent"),
-    (NotListedBack, "neighbour doesn't list back"),
-    (KnownSubscribersWrong, "known subscribers wrong"),
-    (PendingAlsoSeen, "pending also seen"),
+/// The reasons that docs/RULES.md has, in the order of the numbers.
+const ALL: [Reason; 24] = [
+    StateLength,
+    TableLength,
+    EventsLength,
+    TableRow,
+    UnknownCode,
+    BadField,
+    PeerAbsent,
+    AlreadyPresent,
+    NotOrigin,
+    NotPublished,
+    NotNew,
+    NotPending,
+    StillPending,
+    OwnNeighbour,
+    NeighbourAbsent,
+    InputLength,
+    ImageLength,
+    PresenceByte,
+    AbsentNotEmpty,
+    ListsItself,
+    NeighbourNotPresent,
+    NotListedBack,
+    KnownSubscribersWrong,
+    PendingAlsoSeen,
 ];
 
 /// The numbers of refusals, for a message: 5 is no longer one, and 19 never was.
@@ -69,16 +113,49 @@ pub const NUMBERS: &str = "1 to 4, 6 to 18 and 20 to 26";
 impl Reason {
     /// The reason with this number; none for 0 ("done") and for numbers that aren't answered.
     pub fn of_number(number: u8) -> Option<Reason> {
-        MEANINGS.iter().map(|&(reason, _)| reason).find(|reason| reason.number() == number)
+        ALL.into_iter().find(|reason| reason.number() == number)
     }
 
+    /// The number that the engine answers.
     pub fn number(self) -> u8 {
-        self as u8
+        self.entry().0
     }
 
+    /// What the number means, in the words of docs/RULES.md.
     pub fn meaning(self) -> &'static str {
-        let found = MEANINGS.iter().find(|(reason, _)| *reason == self);
-        found.expect("every reason has its meaning").1
+        self.entry().1
+    }
+
+    /// The number and what it means.
+    fn entry(self) -> (u8, &'static str) {
+        match self {
+            StateLength => (1, "state isn't 5,120 bytes"),
+            TableLength => (2, "message table isn't 256 bytes"),
+            EventsLength => (3, "event bytes aren't a multiple of 16"),
+            TableRow => (4, "a message row has topic or origin above 31, or bytes 2-3 not zero"),
+            UnknownCode => (6, "unknown code"),
+            BadField => (7, "peer above 31, message above 63, or an unused byte not zero"),
+            PeerAbsent => (8, "peer absent"),
+            AlreadyPresent => (9, "joining peer already present"),
+            NotOrigin => (10, "producing peer isn't the message's origin"),
+            NotPublished => (11, "topic not in the peer's pubs"),
+            NotNew => (12, "message not new"),
+            NotPending => (13, "message not pending at this peer"),
+            StillPending => (14, "leaver has something pending"),
+            OwnNeighbour => (15, "joining peer names itself as neighbour"),
+            NeighbourAbsent => (16, "a named neighbour is absent"),
+            InputLength => (17, "input above 65,536 bytes"),
+            ImageLength => (18, "image buffer isn't 5,120 bytes"),
+            PresenceByte => (20, "presence byte or zero bytes"),
+            AbsentNotEmpty => (21, "absent record not empty"),
+            ListsItself => (22, "own neighbour"),
+            NeighbourNotPresent => (23, "neighbour absent"),
+            NotListedBack => (24, "neighbour doesn't list back"),
+            KnownSubscribersWrong => (25, "known subscribers wrong"),
+            PendingAlsoSeen => (26, "pending also seen"),
+            NoEngine => (NO_ENGINE, "the engine's process can't be started, or doesn't answer"),
+            Unknown(number) => (number, "a number that this host doesn't know"),
+        }
     }
 
     /// Does it say that the state is unsound? So do 20 to 26, one for each rule of a record.
@@ -89,8 +166,9 @@ impl Reason {
     /// What the place of such a refusal counts; nothing where the place is always 0.
     pub fn place_of(self) -> Option<&'static str> {
         match self {
-            StateLength | TableLength | EventsLength | InputLength | ImageLength => None,
+            StateLength | TableLength | EventsLength | InputLength | ImageLength | NoEngine => None,
             TableRow => Some("row"),
+            Unknown(_) => Some("place"),
             _ if self.is_unsound() => Some("record"),
             _ => Some("event"),
         }
@@ -115,8 +193,11 @@ impl fmt::Display for Reason {
 /// A refusal: the number, the place, and the neighbour or topic at fault (0 where the reason has none).
 #[derive(Clone, Copy, Debug, PartialEq, Eq)]
 pub struct Refusal {
+    /// Why.
     pub reason: Reason,
+    /// Where: `reason.place_of()` says what it counts.
     pub place: usize,
+    /// The neighbour or topic at fault: `reason.detail_of()` says which.
     pub detail: u8,
 }
 
@@ -126,15 +207,14 @@ impl Refusal {
         Refusal { reason, place, detail: 0 }
     }
 
-    /// The answer of the engine as a result: 0 is "done".
+    /// The answer of the engine as a result: 0 is "done". Any other number is a refusal, also one that isn't known.
     pub fn of_answer(number: u8, place: usize, detail: u8) -> Result<(), Refusal> {
-        if number == 0 {
-            return Ok(());
-        }
-        match Reason::of_number(number) {
-            Some(reason) => Err(Refusal { reason, place, detail }),
-            None => panic!("the engine answered {number}, which is no number of docs/RULES.md"),
-        }
+        let reason = match number {
+            0 => return Ok(()),
+            NO_ENGINE => NoEngine,
+            _ => Reason::of_number(number).unwrap_or(Unknown(number)),
+        };
+        Err(Refusal { reason, place, detail })
     }
 }
 
@@ -165,8 +245,8 @@ mod tests {
             let (first, last) = range.split_once(" to ").unwrap();
             said.extend(first.parse::<u8>().unwrap()..=last.parse().unwrap());
         }
-        let numbers: Vec<u8> = MEANINGS.iter().map(|(reason, _)| reason.number()).collect();
-        assert_eq!(numbers, said);
+        let numbers = ALL.map(Reason::number);
+        assert_eq!(said, numbers);
         for number in 0..=u8::MAX {
             let found = Reason::of_number(number).map(Reason::number);
             assert_eq!(found, said.contains(&number).then_some(number));
@@ -204,5 +284,18 @@ mod tests {
         assert_eq!(said(24, 1, 4), "neighbour doesn't list back (24, record 1, neighbour 4)");
         assert_eq!(said(25, 1, 0), "known subscribers wrong (25, record 1, topic 0)");
         assert_eq!(said(26, 3, 0), "pending also seen (26, record 3)");
+    }
+
+    #[test]
+    fn no_number_is_a_panic() {
+        let refused = |number| Refusal::of_answer(number, 7, 0).unwrap_err();
+        for number in 1..=u8::MAX {
+            let refusal = refused(number);
+            assert_eq!(refusal.reason.number(), number);
+            let known = Reason::of_number(number).is_some() || number == NO_ENGINE;
+            assert_eq!(refusal.reason == Unknown(number), !known, "{number}");
+        }
+        assert_eq!(refused(5).to_string(), "a number that this host doesn't know (5, place 7)");
+        assert_eq!(refused(NO_ENGINE).to_string(), "the engine's process can't be started, or doesn't answer (255)");
     }
 }

@@ -1,28 +1,22 @@
 //! Events as lines of text: `join 1 subs 0 neighbours 0`, `produce 0 5`, `subscribe 1 topics 0,2-4`.
 //!
 //! A set is numbers and ranges, with spaces or commas between them; `none` is the empty set. Capital letters and `neighbors` will do.
+//!
+//! ```
+//! use relay_host::{Event, TextError};
+//!
+//! let event: Event = "join 1 subs 0,2-4 neighbours 0".parse().unwrap();
+//! assert_eq!(event.to_string(), "join 1 subs 0,2-4 neighbours 0");
+//! let error = "produce 0 64".parse::<Event>().unwrap_err();
+//! assert_eq!(error, TextError::OutOfRange { noun: "message", last: 63, word: "64".into() });
+//! assert_eq!(error.to_string(), "there is no message 64: messages are 0 to 63");
+//! ```
 
 use crate::event::{Event, Joining};
 use crate::numbers::{Number, Peer, Set, Topic};
-use std::error::Error;
-use std::fmt;
 use std::str::FromStr;
 
-/// Why a line can't be read, for a person.
-#[derive(Clone, Debug, PartialEq, Eq)]
-pub struct TextError(pub String);
-
-impl fmt::Display for TextError {
-    fn fmt(&self, out: &mut fmt::Formatter) -> fmt::Result {
-        out.pad(&self.0)
-    }
-}
-
-impl Error for TextError {}
-
-fn fail<T>(message: String) -> Result<T, TextError> {
-    Err(TextError(message))
-}
+pub use crate::text_error::TextError;
 
 /// A text that may come from anywhere, without what a terminal would obey: a control character stands as its code.
 pub fn plain(text: &str) -> String {
@@ -51,54 +45,40 @@ pub const FORMS: [(&str, &str); 7] = [
 ];
 
 /// The words of one line that are still to be read.
-pub struct Words<'a> {
+struct Words<'a> {
     words: std::iter::Peekable<std::vec::IntoIter<&'a str>>,
     form: &'static str,
 }
 
 impl<'a> Words<'a> {
     /// The words of a line without its comment: a word that begins with `#` ends the line.
-    pub fn of_line(line: &'a str) -> Words<'a> {
-        Words::of_words(line.split_whitespace().take_while(|word| !word.starts_with('#')).collect())
-    }
-
-    /// The words of a line that has been taken apart.
-    pub fn of_words(words: Vec<&'a str>) -> Words<'a> {
-        Words { words: words.into_iter().peekable(), form: "" }
-    }
-
-    /// What a message may give as the right form from here on.
-    pub fn expect_form(&mut self, form: &'static str) {
-        self.form = form;
-    }
-
-    /// The next word, if there is one.
-    pub fn take(&mut self) -> Option<&'a str> {
-        self.words.next()
+    fn of_line(line: &'a str) -> Words<'a> {
+        let words: Vec<&str> = line.split_whitespace().take_while(|word| !word.starts_with('#')).collect();
+        Words { words: words.into_iter().peekable(), form: "an event" }
     }
 
     /// The next word, which must be there.
-    pub fn need(&mut self, what: &str) -> Result<&'a str, TextError> {
-        match self.words.next() {
-            Some(word) => Ok(word),
-            None => fail(format!("{what} is missing: {}", self.form)),
-        }
+    fn need(&mut self, what: &'static str) -> Result<&'a str, TextError> {
+        self.words.next().ok_or(TextError::Missing { what, form: self.form })
+    }
+
+    fn unexpected(&self, word: &str) -> TextError {
+        TextError::Unexpected { word: word.into(), form: self.form }
     }
 
     /// The next word, if it is this keyword.
-    pub fn keyword(&mut self, keyword: &str) -> bool {
+    fn keyword(&mut self, keyword: &str) -> bool {
         self.words.next_if(|word| usual(word) == keyword).is_some()
     }
 
     /// A number of a sort.
-    pub fn number<N: Number>(&mut self) -> Result<N, TextError> {
-        let word = self.need(&format!("the {}", N::NOUN))?;
-        number(word)
+    fn number<N: Number>(&mut self) -> Result<N, TextError> {
+        number(self.need(N::NOUN)?)
     }
 
     /// A set: all words up to one of the keywords or the end, and at least one. A comma may stand between two members, with or
     /// without a space.
-    pub fn set<N: Number>(&mut self, what: &str, keywords: &[&str]) -> Result<Set<N>, TextError> {
+    fn set<N: Number>(&mut self, keyword: &'static str, keywords: &[&str]) -> Result<Set<N>, TextError> {
         let mut set = Set::empty();
         let mut words = 0;
         let mut comma = false;
@@ -109,38 +89,38 @@ impl<'a> Words<'a> {
                 continue;
             }
             if word.starts_with(char::is_alphabetic) {
-                return fail(format!("`{word}` is not expected here: {}", self.form));
+                return Err(self.unexpected(word));
             }
             for part in word.strip_suffix(',').unwrap_or(word).split(',') {
                 if part.is_empty() {
-                    return fail(format!("`{word}` has a comma with no number before it"));
+                    return Err(TextError::Hole { word: word.into() });
                 }
                 add_part(&mut set, part)?;
             }
         }
         match (words, comma) {
-            (0, _) => fail(format!("`{what}` has no set behind it; the empty one is `none`")),
-            (_, true) => fail(format!("the set behind `{what}` ends in a comma")),
+            (0, _) => Err(TextError::NoSet { keyword }),
+            (_, true) => Err(TextError::EndsInComma { keyword }),
             (_, false) => Ok(set),
         }
     }
 
     /// Nothing may follow.
-    pub fn end(&mut self) -> Result<(), TextError> {
+    fn end(&mut self) -> Result<(), TextError> {
         match self.words.next() {
             None => Ok(()),
-            Some(word) => fail(format!("`{word}` is too much: {}", self.form)),
+            Some(word) => Err(TextError::TooMuch { word: word.into(), form: self.form }),
         }
     }
 
-    /// An event whose name has been taken; none if it is no event's name.
-    pub fn event(&mut self, name: &str) -> Result<Option<Event>, TextError> {
-        let name = usual(name);
-        let Some((_, form)) = FORMS.iter().find(|(event, _)| *event == name) else {
-            return Ok(None);
+    /// The event that the whole line is.
+    fn event(&mut self) -> Result<Event, TextError> {
+        let name = self.need("event")?;
+        let Some(&(known, form)) = FORMS.iter().find(|(event, _)| *event == usual(name)) else {
+            return Err(TextError::NoEvent { word: name.into() });
         };
         self.form = form;
-        let event = match name.as_str() {
+        let event = match known {
             "skip" => Event::Skip,
             "produce" => Event::Produce(self.number()?, self.number()?),
             "forward" => Event::Forward(self.number()?, self.number()?),
@@ -150,12 +130,12 @@ impl<'a> Words<'a> {
             _ => Event::Join(self.number()?, self.joining()?),
         };
         self.end()?;
-        Ok(Some(event))
+        Ok(event)
     }
 
     fn topics(&mut self) -> Result<Set<Topic>, TextError> {
         if !self.keyword("topics") {
-            return fail(format!("`topics` is missing: {}", self.form));
+            return Err(TextError::NoKeyword { keyword: "topics", form: self.form });
         }
         self.set("topics", &[])
     }
@@ -164,15 +144,15 @@ impl<'a> Words<'a> {
     fn joining(&mut self) -> Result<Joining, TextError> {
         const KEYWORDS: [&str; 3] = ["subs", "pubs", "neighbours"];
         let (mut subs, mut pubs, mut neighbours) = (None, None, None);
-        while let Some(word) = self.take() {
+        while let Some(word) = self.words.next() {
             let twice = match usual(word).as_str() {
                 "subs" => subs.replace(self.set("subs", &KEYWORDS)?).is_some(),
                 "pubs" => pubs.replace(self.set("pubs", &KEYWORDS)?).is_some(),
                 "neighbours" => neighbours.replace(self.set("neighbours", &KEYWORDS)?).is_some(),
-                _ => return fail(format!("`{word}` is not expected here: {}", self.form)),
+                _ => return Err(self.unexpected(word)),
             };
             if twice {
-                return fail(format!("`{word}` is given twice"));
+                return Err(TextError::Twice { word: word.into() });
             }
         }
         Ok(Joining {
@@ -183,15 +163,14 @@ impl<'a> Words<'a> {
     }
 }
 
-fn number<N: Number>(word: &str) -> Result<N, TextError> {
-    let range = format!("{}s are 0 to {}", N::NOUN, N::BELOW - 1);
+/// A number of a sort, in digits.
+pub(crate) fn number<N: Number>(word: &str) -> Result<N, TextError> {
+    let (noun, last) = (N::NOUN, N::BELOW - 1);
     if word.is_empty() || !word.bytes().all(|byte| byte.is_ascii_digit()) {
-        return fail(format!("`{word}` is no {} number: {range}", N::NOUN));
+        return Err(TextError::NotDigits { noun, last, word: word.into() });
     }
-    match word.parse().ok().and_then(N::new) {
-        Some(number) => Ok(number),
-        None => fail(format!("there is no {} {word}: {range}", N::NOUN)),
-    }
+    let number = word.parse().ok().and_then(N::new);
+    number.ok_or_else(|| TextError::OutOfRange { noun, last, word: word.into() })
 }
 
 /// Adds a number or a range to a set.
@@ -201,10 +180,10 @@ fn add_part<N: Number>(set: &mut Set<N>, part: &str) -> Result<(), TextError> {
         _ => (number(part)?, number(part)?),
     };
     if first.get() > last.get() {
-        return fail(format!("the range {part} runs backwards"));
+        return Err(TextError::Backwards { range: part.into() });
     }
-    for member in first.get()..=last.get() {
-        set.insert(N::new(member).expect("between two numbers in range"));
+    for member in (first.get()..=last.get()).filter_map(N::new) {
+        set.insert(member);
     }
     Ok(())
 }
@@ -213,13 +192,7 @@ impl FromStr for Event {
     type Err = TextError;
 
     fn from_str(line: &str) -> Result<Event, TextError> {
-        let mut words = Words::of_line(line);
-        words.expect_form("an event");
-        let name = words.need("the event")?;
-        match words.event(name)? {
-            Some(event) => Ok(event),
-            None => fail(format!("`{name}` is no event")),
-        }
+        Words::of_line(line).event()
     }
 }
 

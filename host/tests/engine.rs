@@ -50,12 +50,12 @@ fn cases_of_document_01() {
 fn images_and_neighbours_of_the_cases() {
     let (start, _) = after(&H);
     let (mut produced, _) = after(&[&H[..], &["produce 0 5"]].concat());
-    assert!(produced.image() == start.image(), "A2: image as after H");
+    assert_eq!(produced.image(), start.image(), "A2: image as after H");
     let (left, _) = after(&[&H[..], &["produce 0 5", "forward 0 5", "leave 0"]].concat());
     let neighbours: Set<Peer> = [peer(2)].into_iter().collect();
     assert_eq!(left.desk(peer(1)).unwrap().neighbours, neighbours, "A7");
     for (budget, forwards, rounds, quiet) in [(2048, 3, 3, true), (2, 2, 2, false), (0, 0, 0, false)] {
-        let drained = produced.clone().drain(&Table::zero(), budget);
+        let drained = produced.clone().drain(&Table::zero(), budget).unwrap();
         assert_eq!((drained.forwards, drained.rounds, drained.quiet), (forwards, rounds, quiet), "A11");
     }
     let five = Message::new(5).unwrap();

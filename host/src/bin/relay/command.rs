@@ -1,8 +1,9 @@
 //! The commands of the tool, and how a line of text becomes one.
 
+use crate::line::{TextError, Words};
 use crate::pieces::pieces;
 use relay_host::refusal::NUMBERS;
-use relay_host::text::{plain, TextError, Words, FORMS};
+use relay_host::text::{plain, FORMS};
 use relay_host::{Event, Message, Reason, Row, ENOUGH};
 
 #[derive(Clone, Debug, PartialEq, Eq)]
@@ -231,6 +232,10 @@ mod tests {
         assert_eq!(message("show 5"), "`5` is too much: show [message MESSAGE]");
         assert_eq!(message("load"), "the file is missing: load FILE, or load STATE TABLE");
         assert_eq!(message("load \"a b"), "the quote before `a b` is never closed");
+        for (line, word) in [("join \"0 subs 1\"", "0 subs 1"), ("refused 8 skip \"#\"", "#")] {
+            let behind = "can't stand in an event; quotes are for the names of files";
+            assert_eq!(message(line), format!("`{word}` {behind}"));
+        }
         assert_eq!(message("undo"), "`undo` is for interactive use (relay -i), alone on its line");
         assert_eq!(message("exit"), "there is no command `exit`; is it `quit`?");
         assert!(message("picture a.png").contains("doesn't end in .svg"));

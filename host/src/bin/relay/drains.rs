@@ -1,10 +1,10 @@
 //! A drain as the forwards that it makes.
 
-use relay_host::{Event, Network, Table};
+use relay_host::{Event, Network, Refusal, Table};
 
 /// The forwards that a drain would make, in its order: round by round, peers rising, messages rising within a peer. What becomes
-/// pending in a round waits for the next. The engine works out what a round leaves.
-pub fn forwards(network: &Network, table: &Table, budget: u32) -> Vec<Event> {
+/// pending in a round waits for the next. The engine works out what a round leaves, and refuses none of it unless it is out of reach.
+pub fn forwards(network: &Network, table: &Table, budget: u32) -> Result<Vec<Event>, Refusal> {
     let mut network = network.clone();
     let mut forwards = Vec::new();
     let mut left = usize::try_from(budget).unwrap_or(usize::MAX);
@@ -12,10 +12,12 @@ pub fn forwards(network: &Network, table: &Table, budget: u32) -> Vec<Event> {
         let mut round = pending(&network);
         round.truncate(left);
         if round.is_empty() {
-            return forwards;
+            return Ok(forwards);
         }
         left -= round.len();
-        network.run(table, &round);
+        if let Some(refusal) = network.run(table, &round).refusal {
+            return Err(refusal);
+        }
         forwards.extend(round);
     }
 }
@@ -58,12 +60,12 @@ mod tests {
     #[test]
     fn the_forwards_of_a_drain_end_where_the_drain_does() {
         let (network, table) = busy();
-        let whole = network.clone().drain(&table, u32::MAX).forwards;
+        let whole = network.clone().drain(&table, u32::MAX).unwrap().forwards;
         assert!(whole > 9, "{whole}");
         for budget in (0..=whole + 1).chain([u32::MAX]) {
             let (mut drained, mut replayed) = (network.clone(), network.clone());
-            let made = drained.drain(&table, budget).forwards;
-            let forwards = forwards(&network, &table, budget);
+            let made = drained.drain(&table, budget).unwrap().forwards;
+            let forwards = forwards(&network, &table, budget).unwrap();
             assert_eq!(forwards.len(), usize::try_from(made).unwrap());
             assert_eq!(replayed.run(&table, &forwards).refusal, None);
             assert!(replayed == drained, "with a budget of {budget}");

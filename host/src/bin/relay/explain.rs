@@ -64,7 +64,7 @@ fn explain_file(name: &str, bytes: &[u8], out: &mut dyn Write) -> Result<(), Tro
     if let Some((_, text)) = paragraph(refusal.reason.number()) {
         writeln!(out, "{text}")?;
     }
-    Err(Trouble::Refused(String::new()))
+    Err(Trouble::ByEngine(refusal, String::new()))
 }
 
 #[cfg(test)]

@@ -51,7 +51,7 @@ pub fn explain(word: &str, out: &mut dyn Write) -> Result<(), Trouble> {
         }
         Err((refusal, said)) => {
             writeln!(out, "{}", refused(&refusal, &format!("{word} is refused: {said}")).end())?;
-            Err(Trouble::Refused(String::new()))
+            Err(Trouble::ByEngine(refusal, String::new()))
         }
     }
 }

@@ -1,6 +1,6 @@
 //! The command-line tool: a relay network as plain text, on the proved engine. `relay --help` explains it.
 //!
-//! `pieces` takes a line apart and `command` reads it, `session` does what it says, `answer` has what there is to say: `show` and
+//! `pieces` takes a line apart, `line` has its words and `command` reads them, `session` does what it says, `answer` has what there is to say: `show` and
 //! `words` put it into words, `json` and `machine` into JSON. `talk` is for lines as they are typed, `encode` makes event records of
 //! a script and `drains` a drain's forwards, `explain` says what a number means and what is wrong with a state, `picture` draws,
 //! `keep` has states with their tables, `files` reads and writes, `trouble` is why something could not be done.
@@ -13,6 +13,7 @@ mod explain;
 mod files;
 mod json;
 mod keep;
+mod line;
 mod machine;
 mod picture;
 mod pieces;

@@ -1,6 +1,6 @@
 //! The words of a line, where a name with spaces may stand in double quotes.
 
-use relay_host::text::TextError;
+use crate::line::TextError;
 
 /// The words of a line without its comment: a word that begins with `#` ends the line. A word that begins with a double quote
 /// runs to the next one, and may have spaces; two double quotes inside stand for one.

@@ -107,8 +107,8 @@ impl Session {
             Command::Drain(budget) => self.drain(*budget, out)?,
             Command::Show(None) => self.tell(Answer::Network(&self.network), out)?,
             Command::Show(Some(message)) => self.tell(Answer::Message(&self.network, &self.table, *message), out)?,
-            Command::Image(None) => self.tell(Answer::Image(&self.network.image()), out)?,
-            Command::Image(Some(file)) => files::write(file, self.network.image().bytes())?,
+            Command::Image(None) => self.tell(Answer::Image(&self.network.image()?), out)?,
+            Command::Image(Some(file)) => files::write(file, self.network.image()?.bytes())?,
             Command::Tally => self.tell(Answer::Tally(&self.tally), out)?,
             Command::Picture(file, message) => {
                 files::write(file, picture::svg(&self.network, &self.table, *message).as_bytes())?
@@ -209,12 +209,12 @@ impl Session {
 
     fn drain(&mut self, budget: u32, out: &mut dyn Write) -> Result<(), Trouble> {
         if self.expand {
-            for forward in drains::forwards(&self.network, &self.table, budget) {
+            for forward in drains::forwards(&self.network, &self.table, budget)? {
                 self.records.extend(forward.encode());
                 self.named.note(&forward);
             }
         }
-        let drained = self.network.drain(&self.table, budget);
+        let drained = self.network.drain(&self.table, budget)?;
         if drained.forwards > 0 && !self.expand {
             self.unsaid = self.unsaid.or(Some("there was a drain among them, which is no event"));
         }

@@ -124,7 +124,7 @@ peer  subs   pubs  neighbours  pending  seen  known subscribers
 3 peers present, 1 pair pending
 ";
         assert_eq!(network(&chain), expected);
-        assert_eq!(image(&Network::blank().image()), "peer  subs  pubs  seen\n0 peers present in the image\n");
+        assert_eq!(image(&Network::blank().image().unwrap()), "peer  subs  pubs  seen\n0 peers present in the image\n");
     }
 
     fn lines_of(lines: impl Iterator<Item = String>) -> Network {
@@ -168,8 +168,8 @@ peer  subs   pubs  neighbours  pending  seen  known subscribers
     fn no_line_has_120_columns_and_nothing_is_left_out() {
         let mut crowd = crowd();
         for budget in [0, 200, 2048] {
-            crowd.drain(&Table::zero(), budget);
-            let (shown, image) = (network(&crowd), image(&crowd.image()));
+            assert!(crowd.drain(&Table::zero(), budget).is_ok());
+            let (shown, image) = (network(&crowd), image(&crowd.image().unwrap()));
             let message = message(&crowd, &Table::zero(), Message::new(6).unwrap());
             for line in [&shown, &image, &message].into_iter().flat_map(|text| text.lines()) {
                 assert!(line.len() < 120, "{} columns: {line}", line.len());

@@ -1,6 +1,6 @@
 //! Why the tool could not do a thing, and the status that it ends with.
 
-use relay_host::Refusal;
+use relay_host::{Reason, Refusal};
 use std::io;
 
 /// Why a command could not be done.
@@ -69,6 +69,7 @@ impl Trouble {
     /// The status that the tool ends with.
     pub fn status(&self) -> u8 {
         match self {
+            Trouble::ByEngine(refusal, _) if refusal.reason == Reason::NoEngine => 2,
             Trouble::Refused(_) | Trouble::ByEngine(..) => 1,
             Trouble::Text(_) => 2,
             Trouble::Lost(_) | Trouble::Unread => LOST,
@@ -91,6 +92,13 @@ impl Trouble {
     }
 }
 
+/// Where the engine refuses what it can't refuse, it is out of reach.
+impl From<Refusal> for Trouble {
+    fn from(refusal: Refusal) -> Trouble {
+        Trouble::ByEngine(refusal, refusal.to_string())
+    }
+}
+
 /// Trouble with what the tool writes to standard output; all other files are named by `files`.
 impl From<io::Error> for Trouble {
     fn from(error: io::Error) -> Trouble {
@@ -104,7 +112,6 @@ impl From<io::Error> for Trouble {
 #[cfg(test)]
 mod tests {
     use super::*;
-    use relay_host::Reason;
 
     #[test]
     fn a_place_changes_the_message_and_nothing_else() {
@@ -114,6 +121,8 @@ mod tests {
         assert_eq!((placed.place(), placed.refusal()), (Some(("script", 3)), Some(&refusal)));
         let text = Trouble::Text("no".into());
         assert_eq!((text.message(), text.status(), text.place(), text.refusal()), ("no", 2, None, None));
+        let none = Trouble::from(Refusal::at(Reason::NoEngine, 0)).at("script", 3);
+        assert_eq!((none.words(), none.status()), (none.refusal().unwrap().to_string().as_str(), 2));
         let lost = Trouble::from(io::Error::from(io::ErrorKind::StorageFull)).at("script", 3);
         assert!(lost.message().starts_with("script:3: the output is lost: ") && lost.status() == 3 && lost.is_loss());
         let gone = Trouble::from(io::Error::from(io::ErrorKind::BrokenPipe)).at("script", 3);

@@ -62,8 +62,8 @@ pub fn accepted(network: &Network, event: &Event, tally: &Tally) -> String {
             let subs = network.desk(*peer).map_or(Set::empty(), |desk| desk.subs);
             format!("peer {peer} subscribes to {subs}")
         }
-        Event::Leave(_) => present,
         Event::Join(_, joining) => format!("{present}, linked to {}", joining.neighbours),
+        _ => present,
     };
     format!("{event}: {did}")
 }

@@ -155,7 +155,7 @@ fn many_topics_and_messages_are_cut_short_and_told_in_full_by_the_tooltip() {
             network.forward(&Table::zero(), peer, message).unwrap();
         }
     }
-    network.drain(&Table::zero(), 44);
+    assert!(network.drain(&Table::zero(), 44).is_ok());
     let svg = svg(&network, &Table::zero(), None);
     let read = measure(&svg);
     for (line, desks) in

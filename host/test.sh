@@ -90,17 +90,44 @@ verdict $? "explain 5 says what took its place"
 
 # What is wrong with a state: the refusal as a script would get it, then what `explain` says of the number.
 explained() { # NUMBER FIRST-LINE
-    { echo "$2"; "$relay" explain "$1" | sed 1d; } >"$room/explained"
+    { echo "$2" | broken; "$relay" explain "$1" | sed 1d; } >"$room/explained"
+}
+# A line as lines of at most 100 columns, broken at spaces.
+broken() {
+    awk '{
+        line = $1
+        for (i = 2; i <= NF; i++) {
+            if (length(line) + 1 + length($i) > 100) { print line; line = $i } else line = line " " $i
+        }
+        print line
+    }'
 }
 explained 25 "$(sed 's/^[^ ]* //' examples/accident.out)"
-[ "$(wc -l <"$room/explained")" -gt 1 ] && grep -q 'What to do: ' "$room/explained"
+[ "$(wc -l <"$room/explained")" -gt 1 ] && tr '\n' ' ' <"$room/explained" | grep -q 'What to do: '
 verdict $? "explain 25 says what to do"
 gives 1 "$room/explained" "$relay" explain examples/accident.state
+for number in $(sed -n 's/^### \([0-9]*\): .*/\1/p' docs/RULES.md); do
+    "$relay" explain "$number"
+done >"$room/wrote"
+"$relay" explain examples/accident.state >>"$room/wrote"
+[ "$(wc -l <"$room/wrote")" -gt 60 ] && ! grep '.\{101\}' "$room/wrote"
+verdict $? "no line that explain prints has more than 100 columns"
 head -c 5000 examples/accident.state >"$room/short"
 explained 1 "$room/short is refused: state isn't 5,120 bytes (1): found 5000"
 gives 1 "$room/explained" "$relay" explain "$room/short"
 echo "$room/none can't be read: No such file or directory (os error 2)" >"$room/explained"
 gives 2 "$room/explained" "$relay" explain "$room/none"
+for words in explain "explain 14 15" "-v explain" "--json explain" "explain --json" "encode examples/first.relay" decode "--json decode x"; do
+    case $words in
+        -v*) echo "relay: these words make no sense together; relay --help shows what does" ;;
+        *explain*) echo "relay: explain takes a number or a state file; relay --help shows it" ;;
+        encode*) echo "relay: encode takes a script and a file for its records; relay --help shows it" ;;
+        decode) echo "relay: decode takes a file of event records; relay --help shows it" ;;
+        *) echo "relay: decode has no --json; relay --help shows what has" ;;
+    esac >"$room/explained"
+    # shellcheck disable=SC2086
+    gives 2 "$room/explained" "$relay" $words
+done
 
 # Text to records and back, and a state through files.
 examples=$PWD/examples docs=$PWD/docs host=$PWD/host

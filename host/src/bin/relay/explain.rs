@@ -10,19 +10,22 @@ use std::io::Write;
 
 const RULES: &str = include_str!("../../../../docs/RULES.md");
 
-/// What the rules say of a number: the heading, and the lines under it.
+/// No line that is printed here is longer, unless one word is.
+const COLUMNS: usize = 100;
+
+/// What the rules say of a number: the heading, and the paragraph under it as one line.
 fn paragraph(number: u8) -> Option<(&'static str, String)> {
     let heading = format!("### {number}: ");
     let mut lines = RULES.lines().skip_while(|line| !line.starts_with(&heading));
     let title = lines.next()?.strip_prefix("### ")?;
     let text: Vec<&str> = lines.take_while(|line| !line.is_empty()).collect();
-    Some((title, text.join("\n")))
+    Some((title, text.join(" ")))
 }
 
 /// Explains a word of digits as a number, any other as a state file (`./25` is a file, too).
 pub fn explain(word: &str, out: &mut dyn Write) -> Result<(), Trouble> {
     if is_number(word) {
-        return explain_number(word, out);
+        return print(&of_number(word)?, out);
     }
     explain_file(word, &files::read(word)?, out)
 }
@@ -31,13 +34,22 @@ pub fn is_number(word: &str) -> bool {
     word.bytes().all(|byte| byte.is_ascii_digit())
 }
 
-fn explain_number(word: &str, out: &mut dyn Write) -> Result<(), Trouble> {
+/// What there is to say of a number: its meaning, and the paragraph in the next line.
+pub fn of_number(word: &str) -> Result<String, Trouble> {
     match word.parse().ok().and_then(paragraph) {
-        Some((title, text)) => Ok(writeln!(out, "{title}\n{text}")?),
+        Some((title, text)) => Ok(format!("{title}\n{text}")),
         None => Err(Trouble::Text(format!(
             "there is no number {word:?} to explain: they are 0, {NUMBERS} (docs/RULES.md, 6)"
         ))),
     }
+}
+
+/// Prints lines, each broken at spaces where it is too long.
+fn print(text: &str, out: &mut dyn Write) -> Result<(), Trouble> {
+    for line in text.lines() {
+        writeln!(out, "{}", words::broken(line, COLUMNS))?;
+    }
+    Ok(())
 }
 
 /// A state, and its table if that is in the file: the network and whether the table is there, or the refusal and which rule is
@@ -57,12 +69,12 @@ fn explain_file(name: &str, bytes: &[u8], out: &mut dyn Write) -> Result<(), Tro
         Err(refused) => refused,
         Ok((network, table)) => {
             let end = if table { "; its table is with it" } else { "" };
-            return Ok(writeln!(out, "{} is sound: {}{end}", plain(name), words::overview(&network))?);
+            return print(&format!("{} is sound: {}{end}", plain(name), words::overview(&network)), out);
         }
     };
-    writeln!(out, "{} is refused: {said}", plain(name))?;
+    print(&format!("{} is refused: {said}", plain(name)), out)?;
     if let Some((_, text)) = paragraph(refusal.reason.number()) {
-        writeln!(out, "{text}")?;
+        print(&text, out)?;
     }
     Err(Trouble::ByEngine(refusal, String::new()))
 }
@@ -77,6 +89,23 @@ mod tests {
         let mut out = Vec::new();
         let status = explained(&mut out).map_or_else(|trouble| trouble.status(), |()| 0);
         (String::from_utf8(out).unwrap(), status)
+    }
+
+    /// What stands under the heading of a number.
+    fn under(number: u8) -> String {
+        let (text, status) = said(|out| explain(&number.to_string(), out));
+        assert_eq!(status, 0);
+        text.split_once('\n').unwrap().1.into()
+    }
+
+    #[test]
+    fn lines_are_broken_and_nothing_is_left_out() {
+        for number in (0..=u8::MAX).filter(|&number| paragraph(number).is_some()) {
+            let text = under(number);
+            assert_eq!(text.trim_end().replace('\n', " "), paragraph(number).unwrap().1);
+            assert!(text.lines().all(|line| !line.is_empty() && line.len() <= COLUMNS), "{text}");
+        }
+        assert!(under(25).lines().count() > 2);
     }
 
     #[test]
@@ -119,10 +148,10 @@ mod tests {
         state[160 * 31] = 2;
         let (text, status) = said(|out| explain_file("a", &state, out));
         let first = "a is refused: presence byte or zero bytes (20, record 31): byte 0 is 2, expected 0 or 1\n";
-        assert_eq!((text, status), (format!("{first}{}\n", paragraph(20).unwrap().1), 1));
+        assert_eq!((text, status), (format!("{first}{}", under(20)), 1));
         let (text, status) = said(|out| explain_file("a", &state[1..], out));
         let first = "a is refused: state isn't 5,120 bytes (1): found 5119\n";
-        assert_eq!((text, status), (format!("{first}{}\n", paragraph(1).unwrap().1), 1));
+        assert_eq!((text, status), (format!("{first}{}", under(1)), 1));
     }
 
     #[test]
@@ -136,7 +165,7 @@ mod tests {
         both[5375] = 1;
         let (text, status) = said(|out| explain_file("a", &both, out));
         let meaning = Reason::TableRow.meaning();
-        let first = format!("a is refused: its table: {meaning} (4, row 63)\n");
-        assert_eq!((text, status), (format!("{first}{}\n", paragraph(4).unwrap().1), 1));
+        let first = format!("a is refused: its table: {meaning} (4, row\n63)\n");
+        assert_eq!((text, status), (format!("{first}{}", under(4)), 1));
     }
 }

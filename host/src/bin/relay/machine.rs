@@ -3,7 +3,7 @@
 use crate::answer::{refused, Form};
 use crate::json::Object;
 use crate::session::{Session, Trouble};
-use crate::{explain, files, read, STDIN};
+use crate::{explain, files, is_script, read, STDIN};
 use std::io::{self, Write};
 
 /// Runs a script up to the first trouble. The last line says `done` or `stopped`; bad text has a line for each fault.
@@ -27,14 +27,13 @@ pub fn run(name: &str, aloud: bool, out: &mut dyn Write) -> Result<(), Trouble> 
     Ok(writeln!(out, "{}", session.summary())?)
 }
 
-/// Explains a number or a state file; the words are those of `relay explain`.
+/// Explains a number or a state file; the words are those of `relay explain`, and no line of them is broken.
 pub fn explain(word: &str, out: &mut dyn Write) -> Result<(), Trouble> {
     if explain::is_number(word) {
-        let mut words = Vec::new();
-        return match explain::explain(word, &mut words) {
-            Ok(()) => {
+        return match explain::of_number(word) {
+            Ok(words) => {
                 let object = Object::of_kind("number").number("number", word.parse().unwrap_or(0));
-                Ok(writeln!(out, "{}", object.words("words", String::from_utf8_lossy(&words).trim_end()).end())?)
+                Ok(writeln!(out, "{}", object.words("words", &words).end())?)
             }
             Err(trouble) => stop(trouble, out),
         };
@@ -91,8 +90,8 @@ pub fn command(words: &[&str]) -> Option<Result<(), Trouble>> {
         ["explain", word] => explain(word, &mut out),
         [] | ["-"] => run(STDIN, false, &mut out),
         ["-v"] | ["-v", "-"] => run(STDIN, true, &mut out),
-        ["-v", script] if !script.starts_with('-') => run(script, true, &mut out),
-        [script] if !script.starts_with('-') => run(script, false, &mut out),
+        ["-v", script] if is_script(script) => run(script, true, &mut out),
+        [script] if is_script(script) => run(script, false, &mut out),
         _ => return None,
     })
 }

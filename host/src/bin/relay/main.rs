@@ -57,8 +57,8 @@ fn main() -> ExitCode {
         [] | ["-v"] if io::stdin().is_terminal() => talk::talk(&mut io::stdin().lock(), &mut io::stdout().lock()),
         [] | ["-"] => run(STDIN, false),
         ["-v"] | ["-v", "-"] => run(STDIN, true),
-        ["-v", script] if !script.starts_with('-') => run(script, true),
-        [script] if !script.starts_with('-') => run(script, false),
+        ["-v", script] if is_script(script) => run(script, true),
+        [script] if is_script(script) => run(script, false),
         _ => Err(Trouble::Text(misused(&words))),
     };
     match done.and_then(|()| Ok(io::stdout().flush()?)) {
@@ -73,11 +73,30 @@ fn main() -> ExitCode {
     }
 }
 
+/// The words that are no scripts, and what they take. (`./explain` is a script.)
+const TAKING: [(&str, &str); 3] = [
+    ("encode", "a script and a file for its records"),
+    ("decode", "a file of event records"),
+    ("explain", "a number or a state file"),
+];
+
+/// Can this argument be a script's name?
+fn is_script(word: &str) -> bool {
+    !word.starts_with('-') && TAKING.iter().all(|(taking, _)| *taking != word)
+}
+
 /// What to say of arguments that have no meaning.
 fn misused(words: &[&str]) -> String {
     const KNOWN: [&str; 8] = ["-v", "-i", "-h", "--help", "--version", "--expand", machine::OPTION, "-"];
-    match words.iter().find(|word| word.starts_with('-') && !KNOWN.contains(word)) {
-        Some(option) => format!("relay: there is no option {option}; relay --help shows those there are"),
+    if let Some(option) = words.iter().find(|word| word.starts_with('-') && !KNOWN.contains(word)) {
+        return format!("relay: there is no option {option}; relay --help shows those there are");
+    }
+    let first = words.iter().find(|word| **word != machine::OPTION);
+    match TAKING.iter().find(|(word, _)| Some(word) == first) {
+        Some((word @ ("encode" | "decode"), _)) if words.contains(&machine::OPTION) => {
+            format!("relay: {word} has no {}; relay --help shows what has", machine::OPTION)
+        }
+        Some((word, taken)) => format!("relay: {word} takes {taken}; relay --help shows it"),
         None => "relay: these words make no sense together; relay --help shows what does".into(),
     }
 }

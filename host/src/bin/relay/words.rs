@@ -75,6 +75,21 @@ pub fn drained(budget: u32, drained: &Drained) -> String {
     format!("drain {budget}: {forwards}, {rounds}, {end}")
 }
 
+/// A line as lines of at most so many letters, broken at spaces; a word that is longer stands alone.
+pub fn broken(line: &str, width: usize) -> String {
+    let mut lines: Vec<String> = Vec::new();
+    for word in line.split(' ') {
+        match lines.last_mut() {
+            Some(line) if line.chars().count() + 1 + word.chars().count() <= width => {
+                line.push(' ');
+                line.push_str(word);
+            }
+            _ => lines.push(word.into()),
+        }
+    }
+    lines.join("\n")
+}
+
 /// Bytes as pairs of hexadecimal digits.
 pub fn bytes(bytes: &[u8]) -> String {
     let pairs: Vec<String> = bytes.iter().map(|byte| format!("{byte:02x}")).collect();
@@ -144,5 +159,13 @@ mod tests {
         assert_eq!(summary(2, 1), "done: 2 events accepted, 1 pair pending");
         let counts = Tally { produced: 1, forwards: 0, deliveries: 2 };
         assert_eq!(tally(&counts), "tally of the events: 1 produced, 0 forwards, 2 deliveries");
+    }
+    #[test]
+    fn lines_are_broken_at_spaces() {
+        assert_eq!(broken("one two three", 7), "one two\nthree");
+        assert_eq!(broken("one two three", 6), "one\ntwo\nthree");
+        assert_eq!(broken("\u{e9}\u{e9} 5,120 a", 8), "\u{e9}\u{e9} 5,120\na");
+        assert_eq!(broken("longer a  b", 3), "longer\na \nb");
+        assert_eq!(broken("", 3), "");
     }
 }

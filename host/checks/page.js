@@ -88,6 +88,12 @@
             part("message").value = "all";
             part("message").dispatchEvent(new Event("change"));
             lines.push("all: " + part("having").textContent + " | " + all(".desk .beside").map((words) => words.textContent).join(", "));
+            let sum = 0;
+            for (let before = ""; before !== step(); press("ArrowLeft")) {
+                before = step();
+                sum += unreadable();
+            }
+            lines.push(`all: unreadable ${sum}`);
             const written = document.createElement("pre");
             written.textContent = "\nWRITTEN\n" + lines.map((line) => line.trim()).join("\n") + "\nWRITTEN\n";
             document.body.append(written);

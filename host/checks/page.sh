@@ -89,7 +89,7 @@ else
     } >"$room/full.relay"
     "$relay" page "$room/full.relay" "$room/full.html"
     play "$room/full.html" step=0
-    [ "$(grep -c '^absent .*, unreadable 0$' "$room/played")" -eq 36 ] && ! grep 'unreadable [^0]' "$room/played"
+    [ "$(grep -c '^absent .*, unreadable 0$' "$room/played")" -eq 36 ] && grep -q '^all: unreadable 0$' "$room/played"
     verdict $? "32 desks fully linked: all words can be read"
     [ "$(sed -n 's/^arrows *//p' "$room/played" | sed -n 35p | wc -w)" -eq 31 ] &&
         [ "$(sed -n 's/^links //p' "$room/played" | tail -n 1 | wc -w)" -eq 496 ] &&

@@ -39,12 +39,11 @@ function drawWords(state) {
 function drawLegend() {
     const entries = run.looks.filter((look) => (chosen === null) === (look.words === ""));
     const disc = (colour) => [["circle", { cx: 17, cy: 8, r: 7, style: `fill: ${colour}; stroke: #333333` }]];
-    const line = (name) => ["path", { class: name, d: "M 1 8 L 31 8" }];
-    const head = (name) => ["path", { class: name, d: "M 23 3 L 31 8 L 23 13", style: "stroke-dasharray: none" }];
-    const arrow = (name) => [line(name), head(name)];
+    const line = (name) => [["path", { class: name, d: "M 1 8 L 31 8" }]];
+    const arrow = (name) => [["path", { class: name, d: "M 1 8 L 31 8 M 23 3 L 31 8 L 23 13" }]];
     const meaning = (look) => (look.words === "waits" || look.words === "apart" ? `${look.words}: ${look.meaning}` : look.meaning);
     const signs = entries.map((look) => [disc(look.colour), meaning(look)]);
-    signs.push([[line("link")], "a link between two neighbours"]);
+    signs.push([line("link"), "a link between two neighbours"]);
     signs.push([arrow("arrow"), chosen === null ? "a delivery at this step" : "a delivery of this message at this step"]);
     if (chosen !== null) {
         signs.push([arrow("arrow other"), "a delivery of another message"]);

@@ -18,7 +18,7 @@ const LEAST: f64 = 260.0;
 const SCALE: f64 = 1.4;
 
 /// The widest that the page writes beside a desk.
-const WIDEST: [&str; 2] = ["has seen", "circle 31"];
+const WIDEST: [&str; 2] = ["64 pending", "circle 31"];
 
 pub fn json(script: &str, steps: &[Step]) -> String {
     let present: Set<Peer> = steps.iter().flat_map(|step| step.network.desks().map(|(peer, _)| peer)).collect();

@@ -14,6 +14,9 @@ let timer = null;
 
 const SECOND = 1000;
 
+// With more links or arrows than this they are drawn thin.
+const MANY = 64;
+
 function part(id) {
     return document.getElementById(id);
 }
@@ -113,7 +116,7 @@ function drawLinks(state) {
         const desk = state.desks.get(one);
         return desk !== undefined && desk.neighbours.includes(other);
     });
-    group.setAttribute("class", there.length > 64 ? "many" : "");
+    group.setAttribute("class", there.length > MANY ? "many" : "");
     for (const [one, other, ...at] of there) {
         const [x, y, bendX, bendY, toX, toY] = at;
         const path = drawn(group, "path", { class: "link", d: `M ${x} ${y} Q ${bendX} ${bendY} ${toX} ${toY}` });
@@ -160,22 +163,22 @@ function drawArrows() {
         pairs.set(pair, (pairs.get(pair) || []).concat(message));
     }
     const isOther = (list) => chosen !== null && !list.includes(chosen);
+    group.setAttribute("class", pairs.size > MANY ? "many" : "");
     for (const [pair, list] of [...pairs].sort((one, other) => isOther(other[1]) - isOther(one[1]))) {
         const points = curve(...pair.split(">").map(Number));
         if (points === null) continue;
         const { line, head } = arrow(points);
         const both = drawn(group, "g", {});
         Object.assign(both.dataset, { pair, messages: list.join(",") });
-        const look = isOther(list) ? "arrow other" : "arrow";
-        drawn(both, "path", { class: look, d: line });
-        drawn(both, "path", { class: look, d: head, style: "stroke-dasharray: none" });
+        const look = chosen === null ? "arrow any" : isOther(list) ? "arrow other" : "arrow";
+        drawn(both, "path", { class: look, d: `${line} ${head}` });
         drawn(both, "title", {}, `${pair.replace(">", " to ")}: message ${numbers(list)}`);
     }
 }
 
 // What stands beside a desk.
 function linesOf(desk, look, circle) {
-    if (chosen === null) return [`${desk.pending.length} pending`, `${desk.seen.length} seen`];
+    if (chosen === null) return ["pending", "seen"].filter((set) => desk[set].length > 0).map((set) => `${desk[set].length} ${set}`);
     return [looks.get(look).words].concat(circle === undefined ? [] : ["circle " + circle]);
 }
 

@@ -29,6 +29,15 @@ gives 2 examples/bad.out "$relay" page examples/bad.relay "$room/none.html"
 [ ! -e "$room/none.html" ]
 verdict $? "bad text makes no page"
 
+# A record file is played event by event, up to the one that is refused.
+printf 'join 0 pubs 0\nproduce 0 5\nforward 0 5\n' >"$room/lines"
+"$relay" encode "$room/lines" "$room/records"
+printf 'run %s\nrun %s\n' "$room/records" "$room/records" >"$room/twice.relay"
+echo "$room/twice.relay:2: $room/records: join 0 pubs 0 is refused: joining peer already present (9, event 0)" >"$room/want"
+gives 1 "$room/want" "$relay" page "$room/twice.relay" "$room/twice.html"
+[ "$(grep -o '"line":[0-9]*,"source"' "$room/twice.html" | tr -dc '0-9\n' | tr '\n' ' ')" = "0 1 1 1 2 " ]
+verdict $? "a page has a step for each event of a record file"
+
 # Two messages at once, by the lines of the script, and the same with what `relay --json` says at each step. A drain by as many
 # forwards as are pending is one round.
 cat >"$room/play.relay" <<'LINES'

@@ -76,14 +76,29 @@ fn every_step_says_what_happened() {
 }
 
 #[test]
-fn deliveries_are_as_many_as_the_engine_counts() {
+fn deliveries_have_both_ends_and_the_message() {
     let steps = steps(LINES);
     let numbers = |step: &Step| -> Vec<(u8, u8, u8)> {
         step.deliveries.iter().map(|one| (one.from.get(), one.to.get(), one.message.get())).collect()
     };
     let rounds: Vec<_> = steps.iter().filter(|step| step.round > 0).map(numbers).collect();
     assert_eq!(rounds, [vec![(0, 1, 5), (3, 2, 9)], vec![(1, 2, 5)], vec![(2, 3, 5)], vec![]]);
-    let before = steps.iter().rfind(|step| step.line == 12).unwrap();
+}
+
+/// Desk 2 holds the message already when desk 1 forwards it.
+const SQUARE: &str = "join 0 pubs 0
+join 1 subs 0 neighbours 0
+join 2 subs 0 neighbours 0,1
+join 3 subs 0 neighbours 1,2
+produce 0 5
+forward 0 5
+forward 1 5";
+
+#[test]
+fn deliveries_are_as_many_as_the_engine_counts() {
+    let steps = steps(SQUARE);
+    assert_eq!(steps.iter().map(|step| step.deliveries.len()).collect::<Vec<_>>(), [0, 0, 0, 0, 0, 0, 2, 1]);
+    let before = &steps[5];
     let mut network = before.network.clone();
     for event in crate::drains::forwards(&network, &before.table, 2048).unwrap() {
         let old = network.clone();

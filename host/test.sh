@@ -1,12 +1,12 @@
 #!/usr/bin/env bash
 # Builds the host over the engine's static library and tries all of it: the Rust crate's tests, its text and papers (checks/crate.sh),
-# what is installed (checks/install.sh), the C example, the examples with their stored output, and the tool's files. Ends with
-# status 0 only if nothing differs.
+# what is installed (checks/install.sh), pages (checks/page.sh), the C example, the examples with their stored output, and the
+# tool's files. Ends with status 0 only if nothing differs.
 #
 #     bash host/test.sh
 #
 # Needs cargo, a C compiler and the library, which `rt staticlib engine` makes if it isn't there. RELAY_ENGINE_DIR
-# names another folder than target/staticlib.
+# names another folder than target/staticlib. What needs a browser is left out where there is no chromium.
 set -u
 cd "$(dirname "$0")/.." || exit 2
 export RELAY_ENGINE_DIR=${RELAY_ENGINE_DIR:-$PWD/target/staticlib}
@@ -60,6 +60,7 @@ relay=${CARGO_TARGET_DIR:-$PWD/host/target}/release/relay
 . host/checks/crate.sh
 . host/checks/install.sh
 . host/checks/flood.sh
+. host/checks/page.sh
 
 sh host/link-c.sh "$library" "$room/example" host/example.c || exit 1
 gives 0 host/example.out "$room/example"

@@ -103,11 +103,16 @@ fn topics(peer: Peer, desk: &Desk) -> Object {
     Object::new().number("peer", peer.get().into()).set("subs", desk.subs).set("pubs", desk.pubs)
 }
 
-fn peer_object(peer: Peer, desk: &Desk) -> Object {
+/// A peer with all that it has but its known subscribers.
+pub fn peer_in_short(peer: Peer, desk: &Desk) -> Object {
     let topics = topics(peer, desk).set("neighbours", desk.neighbours);
+    topics.set("pending", desk.pending).set("seen", desk.seen)
+}
+
+fn peer_object(peer: Peer, desk: &Desk) -> Object {
     let known = Topic::all().filter(|&topic| !desk.known(topic).is_empty());
     let known = known.map(|topic| Object::new().number("topic", topic.get().into()).set("peers", desk.known(topic)));
-    topics.set("pending", desk.pending).set("seen", desk.seen).objects("known", known)
+    peer_in_short(peer, desk).objects("known", known)
 }
 
 fn message_object(network: &Network, table: &Table, message: Message) -> Object {

@@ -5,20 +5,25 @@ use relay_host::{Event, Network, Refusal, Table};
 /// The forwards that a drain would make, in its order: round by round, peers rising, messages rising within a peer. What becomes
 /// pending in a round waits for the next. The engine works out what a round leaves, and refuses none of it unless it is out of reach.
 pub fn forwards(network: &Network, table: &Table, budget: u32) -> Result<Vec<Event>, Refusal> {
+    Ok(rounds(network, table, budget)?.concat())
+}
+
+/// The same, each round for itself. The budget may cut the last one short.
+pub fn rounds(network: &Network, table: &Table, budget: u32) -> Result<Vec<Vec<Event>>, Refusal> {
     let mut network = network.clone();
-    let mut forwards = Vec::new();
+    let mut rounds = Vec::new();
     let mut left = usize::try_from(budget).unwrap_or(usize::MAX);
     loop {
         let mut round = pending(&network);
         round.truncate(left);
         if round.is_empty() {
-            return Ok(forwards);
+            return Ok(rounds);
         }
         left -= round.len();
         if let Some(refusal) = network.run(table, &round).refusal {
             return Err(refusal);
         }
-        forwards.extend(round);
+        rounds.push(round);
     }
 }
 

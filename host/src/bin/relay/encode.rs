@@ -56,7 +56,7 @@ pub fn encode(script: &str, file: &str) -> Result<(), Trouble> {
         lost = lost.or(why.map(|why| (line, why)));
     }
     match lost {
-        None => write_over(script, file, |file| files::write(file, &records)),
+        None => write_beside(script, "records", file, |file| files::write(file, &records)),
         Some((line, why)) => Err(unsaid(why).at(script, line)),
     }
 }
@@ -68,18 +68,13 @@ pub fn expand(script: &str, file: &str) -> Result<(), Trouble> {
     let mut lost = None;
     let mut unwritten: Vec<String> = Vec::new();
     for (line, command) in read_script(script)? {
-        if let Some(name) = reads(&command).find(|name| unwritten.iter().any(|other| files::same(name, other))) {
-            let why = format!("{name} is what a line before would write, and encoding a script writes no such file");
-            return Err(Trouble::Text(why).at(script, line));
-        }
-        match writes(&command) {
-            Some(names) => unwritten.extend(names.map(String::from)),
-            None => session.execute(&command, &mut io::sink()).map_err(|trouble| trouble.at(script, line))?,
+        if !is_write(&command, &mut unwritten, "encoding a script").map_err(|trouble| trouble.at(script, line))? {
+            session.execute(&command, &mut io::sink()).map_err(|trouble| trouble.at(script, line))?;
         }
         lost = (!session.can_be_written()).then(|| lost.unwrap_or(line));
     }
     match lost {
-        None => write_over(script, file, |file| session.write_events(file)),
+        None => write_beside(script, "records", file, |file| session.write_events(file)),
         Some(line) => Err(unsaid(NAMED).at(script, line)),
     }
 }
@@ -88,14 +83,31 @@ fn unsaid(why: &str) -> Trouble {
     Trouble::Text(format!("{why}, so event records can't say it"))
 }
 
-/// Writes the records, but not over the script that they are made from.
-fn write_over(script: &str, file: &str, write: impl Fn(&str) -> Result<(), Trouble>) -> Result<(), Trouble> {
+/// Writes the records or the page of a script, but not over the script.
+pub fn write_beside(
+    script: &str,
+    what: &str,
+    file: &str,
+    write: impl Fn(&str) -> Result<(), Trouble>,
+) -> Result<(), Trouble> {
     if files::same(script, file) {
         return Err(Trouble::Text(format!(
-            "the records would take the place of the script, {script}; give another name"
+            "the {what} would take the place of the script, {script}; give another name"
         )));
     }
     write(file)
+}
+
+/// Is it a command that would write files? They are noted, as none is written here. What reads one of them is refused.
+pub fn is_write(command: &Command, unwritten: &mut Vec<String>, doing: &str) -> Result<bool, Trouble> {
+    if let Some(name) = reads(command).find(|name| unwritten.iter().any(|other| files::same(name, other))) {
+        let why = format!("{name} is what a line before would write, and {doing} writes no such file");
+        return Err(Trouble::Text(why));
+    }
+    let names = writes(command);
+    let is_write = names.is_some();
+    unwritten.extend(names.into_iter().flatten().map(String::from));
+    Ok(is_write)
 }
 
 /// The files that a command reads.

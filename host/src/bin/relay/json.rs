@@ -17,7 +17,8 @@ impl Object {
         Object::new().words("kind", kind)
     }
 
-    fn field(mut self, name: &str, value: &str) -> Object {
+    /// A field whose value is JSON already.
+    pub fn field(mut self, name: &str, value: &str) -> Object {
         if self.text.len() > 1 {
             self.text.push(',');
         }
@@ -51,7 +52,8 @@ impl Object {
         self.list(name, objects.map(Object::end))
     }
 
-    fn list(self, name: &str, values: impl Iterator<Item = String>) -> Object {
+    /// Values that are JSON already.
+    pub fn list(self, name: &str, values: impl Iterator<Item = String>) -> Object {
         let values: Vec<String> = values.collect();
         self.field(name, &format!("[{}]", values.join(",")))
     }
@@ -62,7 +64,7 @@ impl Object {
 }
 
 /// A text in quotation marks. Marks, backslashes and control characters are escaped; all else stands as it is.
-fn quoted(text: &str) -> String {
+pub fn quoted(text: &str) -> String {
     let mut quoted = String::from("\"");
     for letter in text.chars() {
         match letter {

@@ -3,7 +3,7 @@
 //! `pieces` takes a line apart, `line` has its words and `command` reads them, `session` does what it says, `answer` has what there is to say: `show` and
 //! `words` put it into words, `json` and `machine` into JSON. `talk` is for lines as they are typed, `encode` makes event records of
 //! a script and `drains` a drain's forwards, `explain` says what a number means and what is wrong with a state, `picture` draws,
-//! `keep` has states with their tables, `files` reads and writes, `trouble` is why something could not be done.
+//! `page` plays a run in a browser, `keep` has states with their tables, `files` reads and writes, `trouble` is why something could not be done.
 
 mod answer;
 mod command;
@@ -15,6 +15,7 @@ mod json;
 mod keep;
 mod line;
 mod machine;
+mod page;
 mod picture;
 mod pieces;
 mod session;
@@ -52,6 +53,7 @@ fn main() -> ExitCode {
         ["encode", "--expand", script, file] => encode::expand(script, file),
         ["encode", script, file] if script != "--expand" => encode::encode(script, file),
         ["decode", file] => encode::decode(file),
+        ["page", script, file] => page::page(script, file),
         ["explain", word] => explain::explain(word, &mut io::stdout().lock()),
         ["-i"] => talk::talk(&mut io::stdin().lock(), &mut io::stdout().lock()),
         [] | ["-v"] if io::stdin().is_terminal() => talk::talk(&mut io::stdin().lock(), &mut io::stdout().lock()),
@@ -74,10 +76,11 @@ fn main() -> ExitCode {
 }
 
 /// The words that are no scripts, and what they take. (`./explain` is a script.)
-const TAKING: [(&str, &str); 3] = [
+const TAKING: [(&str, &str); 4] = [
     ("encode", "a script and a file for its records"),
     ("decode", "a file of event records"),
     ("explain", "a number or a state file"),
+    ("page", "a script and a file for the page, FILE.html"),
 ];
 
 /// Can this argument be a script's name?
@@ -93,7 +96,7 @@ fn misused(words: &[&str]) -> String {
     }
     let first = words.iter().find(|word| **word != machine::OPTION);
     match TAKING.iter().find(|(word, _)| Some(word) == first) {
-        Some((word @ ("encode" | "decode"), _)) if words.contains(&machine::OPTION) => {
+        Some((word @ ("encode" | "decode" | "page"), _)) if words.contains(&machine::OPTION) => {
             format!("relay: {word} has no {}; relay --help shows what has", machine::OPTION)
         }
         Some((word, taken)) => format!("relay: {word} takes {taken}; relay --help shows it"),
@@ -117,13 +120,22 @@ type Script = Vec<(usize, Command)>;
 /// Reads a whole script before any of it is run, so that a slip of the pen costs nothing: its commands, and all that is wrong
 /// with it.
 fn read(name: &str) -> Result<(Script, Vec<Trouble>), Trouble> {
+    Ok(commands(name, &read_text(name)?))
+}
+
+/// A script's text.
+fn read_text(name: &str) -> Result<String, Trouble> {
     let mut bytes = Vec::new();
     if name == STDIN {
         io::stdin().read_to_end(&mut bytes).map_err(unreadable)?;
     } else {
         bytes = files::read(name)?;
     }
-    let text = text_of(name, &bytes)?;
+    Ok(text_of(name, &bytes)?.into())
+}
+
+/// The commands of a script's text, and all that is wrong with it.
+fn commands(name: &str, text: &str) -> (Script, Vec<Trouble>) {
     let mut script = Vec::new();
     let mut faults = Vec::new();
     for (place, line) in text.lines().enumerate() {
@@ -133,12 +145,16 @@ fn read(name: &str) -> Result<(Script, Vec<Trouble>), Trouble> {
             Err(error) => faults.push(Trouble::Text(error.to_string()).at(name, place + 1)),
         }
     }
-    Ok((script, faults))
+    (script, faults)
 }
 
 /// Reads a script that nothing is wrong with; otherwise says what is.
 fn read_script(name: &str) -> Result<Script, Trouble> {
-    let (script, faults) = read(name)?;
+    faultless(name, read(name)?)
+}
+
+/// A script that nothing is wrong with; otherwise what is.
+fn faultless(name: &str, (script, faults): (Script, Vec<Trouble>)) -> Result<Script, Trouble> {
     if faults.is_empty() {
         return Ok(script);
     }

@@ -3,8 +3,8 @@
 //!
 //! `layout` says where things are, `svg` writes them; `geometry` measures.
 
-mod geometry;
-mod layout;
+pub mod geometry;
+pub mod layout;
 mod svg;
 #[cfg(test)]
 mod tests;
@@ -13,11 +13,11 @@ use crate::words;
 use relay_host::{Desk, Message, Network, Number, Peer, Set, Table};
 use std::fmt::Write;
 
-pub use svg::svg;
+pub use svg::{ring_area, svg};
 
 /// How a desk stands to a message, or to all of them. Each has a colour of its own.
 #[derive(Clone, Copy, Debug, PartialEq, Eq)]
-enum Look {
+pub enum Look {
     Holds,
     Seen,
     Waits,
@@ -29,8 +29,8 @@ enum Look {
 use Look::*;
 
 impl Look {
-    const OF_A_MESSAGE: [Look; 4] = [Holds, Seen, Waits, Apart];
-    const OF_A_NETWORK: [Look; 2] = [Busy, Quiet];
+    pub const OF_A_MESSAGE: [Look; 4] = [Holds, Seen, Waits, Apart];
+    pub const OF_A_NETWORK: [Look; 2] = [Busy, Quiet];
 
     fn to_message(desk: &Desk, table: &Table, message: Message) -> Look {
         if desk.pending.has(message) {
@@ -44,7 +44,7 @@ impl Look {
         }
     }
 
-    fn colour(self) -> &'static str {
+    pub fn colour(self) -> &'static str {
         match self {
             Holds => "#f6b26b",
             Seen => "#93c47d",
@@ -67,7 +67,7 @@ impl Look {
     }
 
     /// What stands in the legend.
-    fn meaning(self) -> &'static str {
+    pub fn meaning(self) -> &'static str {
         match self {
             Holds => "holds it, and has yet to forward it",
             Seen => "has seen it, and has forwarded it",
@@ -144,7 +144,7 @@ fn members(part: &str) -> usize {
 }
 
 /// Every link once, from the lower peer to the higher.
-fn links(network: &Network) -> impl Iterator<Item = (Peer, Peer)> + '_ {
+pub fn links(network: &Network) -> impl Iterator<Item = (Peer, Peer)> + '_ {
     network.desks().flat_map(|(peer, desk)| {
         desk.neighbours.members().filter(move |&other| peer < other).map(move |other| (peer, other))
     })

@@ -34,8 +34,8 @@ pub struct Session {
 /// How a session stands: all that a line can change.
 #[derive(PartialEq)]
 pub struct Standing {
-    network: Network,
-    table: Table,
+    pub network: Network,
+    pub table: Table,
     records: usize,
     start: usize,
     tally: Tally,

@@ -3,7 +3,7 @@
 use relay_host::{Drained, Event, Joining, Message, Network, Peer, Reason, Refusal, Set, Table, Tally};
 
 /// A count with its noun.
-fn count(number: u64, noun: &str) -> String {
+pub fn count(number: u64, noun: &str) -> String {
     let plural = match (number, noun.strip_suffix('y')) {
         (1, _) => noun.to_string(),
         (_, Some(stem)) => format!("{stem}ies"),

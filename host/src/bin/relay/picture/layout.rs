@@ -32,18 +32,18 @@ pub struct Label {
 
 impl Label {
     /// Lines on the side of a desk that looks away from the middle, as near as they are clear of it.
-    fn beside(desk: Place, lines: &[String]) -> Label {
-        let label = |step: u32| Label::at(desk, lines, RADIUS + BESIDE + f64::from(step));
+    fn beside(desk: Place, lines: &[String], scale: f64) -> Label {
+        let label = |step: u32| Label::at(desk, lines, scale, RADIUS + BESIDE + f64::from(step));
         let clear = |label: &Label| label.area.distance(desk) >= RADIUS + BESIDE - 2.0;
         (0..40).map(label).find(clear).unwrap_or_else(|| label(40))
     }
 
     /// Lines whose nearest point is about so far from the middle of a desk.
-    fn at(desk: Place, lines: &[String], away: f64) -> Label {
+    fn at(desk: Place, lines: &[String], scale: f64, away: f64) -> Label {
         let far = desk.distance(Place { x: 0.0, y: 0.0 });
         let (out_x, out_y) = if far > 0.0 { (desk.x / far, desk.y / far) } else { (0.0, 1.0) };
-        let wide = lines.iter().map(|line| width(line, LETTERS)).fold(0.0, f64::max);
-        let high = LINE * lines.len() as f64;
+        let wide = lines.iter().map(|line| width(line, scale * LETTERS)).fold(0.0, f64::max);
+        let high = scale * LINE * lines.len() as f64;
         let x = tenths(desk.x + out_x * away);
         let top = tenths(desk.y + out_y * away + high * (out_y - 1.0) / 2.0);
         let (anchor, left) = match out_x {
@@ -65,12 +65,17 @@ pub struct Spot {
 
 /// Spots for desks with these words: on the smallest ring on which no words touch another desk or its words.
 pub fn spots(words: &[Vec<String>]) -> Vec<Spot> {
+    scaled_spots(words, 1.0)
+}
+
+/// The same with letters and lines that are so much larger.
+pub fn scaled_spots(words: &[Vec<String>], scale: f64) -> Vec<Spot> {
     let least = match words.len() {
         0 | 1 => 0.0,
         desks => (desks as f64 * 3.5 * RADIUS / TAU).max(80.0),
     };
     // 32 desks whose words are all 200 wide have room on a ring of 1,100.
-    let rings = (0..=110).map(|step| ring(least + 10.0 * f64::from(step), words));
+    let rings = (0..=110).map(|step| ring(least + 10.0 * f64::from(step), words, scale));
     let mut last = Vec::new();
     for spots in rings {
         last = spots;
@@ -82,11 +87,11 @@ pub fn spots(words: &[Vec<String>]) -> Vec<Spot> {
 }
 
 /// Spots on a ring of a given radius, the first at the top.
-fn ring(radius: f64, words: &[Vec<String>]) -> Vec<Spot> {
+fn ring(radius: f64, words: &[Vec<String>], scale: f64) -> Vec<Spot> {
     let spot = |(turn, lines): (usize, &Vec<String>)| {
         let angle = TAU * turn as f64 / words.len() as f64;
         let at = Place { x: tenths(radius * angle.sin()), y: tenths(-radius * angle.cos()) };
-        Spot { at, label: Label::beside(at, lines) }
+        Spot { at, label: Label::beside(at, lines, scale) }
     };
     words.iter().enumerate().map(spot).collect()
 }

@@ -70,7 +70,7 @@ pub fn svg(network: &Network, table: &Table, message: Option<Message>) -> String
 }
 
 /// The area of the desks and their words.
-fn ring_area(spots: &[Spot]) -> Area {
+pub fn ring_area(spots: &[Spot]) -> Area {
     let areas = spots.iter().flat_map(|spot| [Area::around(spot.at, RADIUS), spot.label.area]);
     areas.fold(Area { left: 0.0, top: 0.0, right: 0.0, bottom: 0.0 }, Area::with)
 }

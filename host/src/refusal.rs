@@ -4,108 +4,80 @@ use crate::raw::NO_ENGINE;
 use std::error::Error;
 use std::fmt;
 
-/// Why something is refused: `reason.number()` is the engine's number. A later engine may have more of them, so a `match` needs an
-/// arm for those:
-///
-/// ```compile_fail
-/// # use relay_host::Reason::{self, *};
-/// # fn row(reason: Reason) -> bool {
-/// match reason {
-///     TableRow => true,
-///     StateLength | TableLength | EventsLength | UnknownCode | BadField | PeerAbsent | AlreadyPresent => false,
-///     NotOrigin | NotPublished | NotNew | NotPending | StillPending | OwnNeighbour | NeighbourAbsent => false,
-///     InputLength | ImageLength | PresenceByte | AbsentNotEmpty | ListsItself | NeighbourNotPresent => false,
-///     NotListedBack | KnownSubscribersWrong | PendingAlsoSeen => false,
-///     NoEngine | Unknown(_) => false,
-/// }
-/// # }
-/// ```
-#[derive(Clone, Copy, Debug, PartialEq, Eq, Hash)]
-#[non_exhaustive]
-pub enum Reason {
-    /// 1: state isn't 5,120 bytes.
-    StateLength,
-    /// 2: message table isn't 256 bytes.
-    TableLength,
-    /// 3: event bytes aren't a multiple of 16.
-    EventsLength,
-    /// 4: a message row has topic or origin above 31, or bytes 2-3 not zero.
-    TableRow,
-    /// 6: unknown code.
-    UnknownCode,
-    /// 7: peer above 31, message above 63, or an unused byte not zero.
-    BadField,
-    /// 8: peer absent.
-    PeerAbsent,
-    /// 9: joining peer already present.
-    AlreadyPresent,
-    /// 10: producing peer isn't the message's origin.
-    NotOrigin,
-    /// 11: topic not in the peer's pubs.
-    NotPublished,
-    /// 12: message not new.
-    NotNew,
-    /// 13: message not pending at this peer.
-    NotPending,
-    /// 14: leaver has something pending.
-    StillPending,
-    /// 15: joining peer names itself as neighbour.
-    OwnNeighbour,
-    /// 16: a named neighbour is absent.
-    NeighbourAbsent,
-    /// 17: input above 65,536 bytes.
-    InputLength,
-    /// 18: image buffer isn't 5,120 bytes.
-    ImageLength,
-    /// 20: presence byte or zero bytes.
-    PresenceByte,
-    /// 21: absent record not empty.
-    AbsentNotEmpty,
-    /// 22: own neighbour.
-    ListsItself,
-    /// 23: neighbour absent.
-    NeighbourNotPresent,
-    /// 24: neighbour doesn't list back.
-    NotListedBack,
-    /// 25: known subscribers wrong.
-    KnownSubscribersWrong,
-    /// 26: pending also seen.
-    PendingAlsoSeen,
-    /// No number of the engine: its process can't be started, or doesn't answer ([`NO_ENGINE`]).
-    NoEngine,
-    /// A number that this crate doesn't know. The engine that it was made for answers none; that is proved.
-    Unknown(u8),
+/// Writes down the reasons that docs/RULES.md has, each with its number and what it means, in the order of the numbers: the
+/// enum, the list of them, and what is said of each.
+macro_rules! reasons {
+    ($(#[$about:meta])* $($name:ident = $number:literal, $meaning:literal;)*) => {
+        $(#[$about])*
+        #[derive(Clone, Copy, Debug, PartialEq, Eq, Hash)]
+        #[non_exhaustive]
+        pub enum Reason {
+            $(#[doc = concat!($number, ": ", $meaning, ".")] $name,)*
+            /// No number of the engine: its process can't be started, or doesn't answer ([`NO_ENGINE`]).
+            NoEngine,
+            /// A number that this crate doesn't know. The engine that it was made for answers none; that is proved.
+            Unknown(u8),
+        }
+
+        const ALL: &[Reason] = &[$(Reason::$name),*];
+
+        impl Reason {
+            /// The number and what it means.
+            fn entry(self) -> (u8, &'static str) {
+                match self {
+                    $(Reason::$name => ($number, $meaning),)*
+                    Reason::NoEngine => (NO_ENGINE, "the engine's process can't be started, or doesn't answer"),
+                    Reason::Unknown(number) => (number, "a number that this host doesn't know"),
+                }
+            }
+        }
+    };
+}
+
+reasons! {
+    /// Why something is refused: `reason.number()` is the engine's number. A later engine may have more of them, so a `match` needs an
+    /// arm for those:
+    ///
+    /// ```compile_fail
+    /// # use relay_host::Reason::{self, *};
+    /// # fn row(reason: Reason) -> bool {
+    /// match reason {
+    ///     TableRow => true,
+    ///     StateLength | TableLength | EventsLength | UnknownCode | BadField | PeerAbsent | AlreadyPresent => false,
+    ///     NotOrigin | NotPublished | NotNew | NotPending | StillPending | OwnNeighbour | NeighbourAbsent => false,
+    ///     InputLength | ImageLength | PresenceByte | AbsentNotEmpty | ListsItself | NeighbourNotPresent => false,
+    ///     NotListedBack | KnownSubscribersWrong | PendingAlsoSeen => false,
+    ///     NoEngine | Unknown(_) => false,
+    /// }
+    /// # }
+    /// ```
+    StateLength = 1, "state isn't 5,120 bytes";
+    TableLength = 2, "message table isn't 256 bytes";
+    EventsLength = 3, "event bytes aren't a multiple of 16";
+    TableRow = 4, "a message row has topic or origin above 31, or bytes 2-3 not zero";
+    UnknownCode = 6, "unknown code";
+    BadField = 7, "peer above 31, message above 63, or an unused byte not zero";
+    PeerAbsent = 8, "peer absent";
+    AlreadyPresent = 9, "joining peer already present";
+    NotOrigin = 10, "producing peer isn't the message's origin";
+    NotPublished = 11, "topic not in the peer's pubs";
+    NotNew = 12, "message not new";
+    NotPending = 13, "message not pending at this peer";
+    StillPending = 14, "leaver has something pending";
+    OwnNeighbour = 15, "joining peer names itself as neighbour";
+    NeighbourAbsent = 16, "a named neighbour is absent";
+    InputLength = 17, "input above 65,536 bytes";
+    ImageLength = 18, "image buffer isn't 5,120 bytes";
+    PresenceByte = 20, "presence byte or zero bytes";
+    AbsentNotEmpty = 21, "absent record not empty";
+    ListsItself = 22, "own neighbour";
+    NeighbourNotPresent = 23, "neighbour absent";
+    NotListedBack = 24, "neighbour doesn't list back";
+    KnownSubscribersWrong = 25, "known subscribers wrong";
+    PendingAlsoSeen = 26, "pending also seen";
 }
 
 use Reason::*;
-
-/// The reasons that docs/RULES.md has, in the order of the numbers.
-const ALL: [Reason; 24] = [
-    StateLength,
-    TableLength,
-    EventsLength,
-    TableRow,
-    UnknownCode,
-    BadField,
-    PeerAbsent,
-    AlreadyPresent,
-    NotOrigin,
-    NotPublished,
-    NotNew,
-    NotPending,
-    StillPending,
-    OwnNeighbour,
-    NeighbourAbsent,
-    InputLength,
-    ImageLength,
-    PresenceByte,
-    AbsentNotEmpty,
-    ListsItself,
-    NeighbourNotPresent,
-    NotListedBack,
-    KnownSubscribersWrong,
-    PendingAlsoSeen,
-];
 
 /// The numbers of refusals, for a message: 5 is no longer one, and 19 never was.
 pub const NUMBERS: &str = "1 to 4, 6 to 18 and 20 to 26";
@@ -113,7 +85,7 @@ pub const NUMBERS: &str = "1 to 4, 6 to 18 and 20 to 26";
 impl Reason {
     /// The reason with this number; none for 0 ("done") and for numbers that aren't answered.
     pub fn of_number(number: u8) -> Option<Reason> {
-        ALL.into_iter().find(|reason| reason.number() == number)
+        ALL.iter().copied().find(|reason| reason.number() == number)
     }
 
     /// The number that the engine answers.
@@ -124,38 +96,6 @@ impl Reason {
     /// What the number means, in the words of docs/RULES.md.
     pub fn meaning(self) -> &'static str {
         self.entry().1
-    }
-
-    /// The number and what it means.
-    fn entry(self) -> (u8, &'static str) {
-        match self {
-            StateLength => (1, "state isn't 5,120 bytes"),
-            TableLength => (2, "message table isn't 256 bytes"),
-            EventsLength => (3, "event bytes aren't a multiple of 16"),
-            TableRow => (4, "a message row has topic or origin above 31, or bytes 2-3 not zero"),
-            UnknownCode => (6, "unknown code"),
-            BadField => (7, "peer above 31, message above 63, or an unused byte not zero"),
-            PeerAbsent => (8, "peer absent"),
-            AlreadyPresent => (9, "joining peer already present"),
-            NotOrigin => (10, "producing peer isn't the message's origin"),
-            NotPublished => (11, "topic not in the peer's pubs"),
-            NotNew => (12, "message not new"),
-            NotPending => (13, "message not pending at this peer"),
-            StillPending => (14, "leaver has something pending"),
-            OwnNeighbour => (15, "joining peer names itself as neighbour"),
-            NeighbourAbsent => (16, "a named neighbour is absent"),
-            InputLength => (17, "input above 65,536 bytes"),
-            ImageLength => (18, "image buffer isn't 5,120 bytes"),
-            PresenceByte => (20, "presence byte or zero bytes"),
-            AbsentNotEmpty => (21, "absent record not empty"),
-            ListsItself => (22, "own neighbour"),
-            NeighbourNotPresent => (23, "neighbour absent"),
-            NotListedBack => (24, "neighbour doesn't list back"),
-            KnownSubscribersWrong => (25, "known subscribers wrong"),
-            PendingAlsoSeen => (26, "pending also seen"),
-            NoEngine => (NO_ENGINE, "the engine's process can't be started, or doesn't answer"),
-            Unknown(number) => (number, "a number that this host doesn't know"),
-        }
     }
 
     /// Does it say that the state is unsound? So do 20 to 26, one for each rule of a record.
@@ -245,7 +185,7 @@ mod tests {
             let (first, last) = range.split_once(" to ").unwrap();
             said.extend(first.parse::<u8>().unwrap()..=last.parse().unwrap());
         }
-        let numbers = ALL.map(Reason::number);
+        let numbers: Vec<u8> = ALL.iter().map(|reason| reason.number()).collect();
         assert_eq!(said, numbers);
         for number in 0..=u8::MAX {
             let found = Reason::of_number(number).map(Reason::number);

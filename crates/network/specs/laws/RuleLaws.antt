@@ -1,5 +1,5 @@
 -- Each rule of a present record in observations, both ways; and the lowest peer or topic that breaks one. Assumes nothing.
-use mathlib.Core.Path.{_≡_, refl, sym, ap, _∙_}
+use mathlib.Core.Path.{_≡_, sym, ap, _∙_}
 use mathlib.Core.Bool.{Bool, true, false, not, _&&_, _||_}
 use mathlib.Core.Logic.{⊎-elim}
 use Prim.Native.Nat.{ℕ, _≤_, _<_}
@@ -7,7 +7,7 @@ use native.Mathlib.Omega.{arith}
 use native.Mathlib.Decide.{decLt}
 use borrow.Author.Tests.{eq-eqb, eqb-true, eqb-false}
 use Rattle.sets.specs.Set.{has, meet, setOf, lowest}
-use Rattle.sets.specs.laws.Bools.{either, clash, not-false, not-yes, not-no, and-yes, or-no, apart}
+use Rattle.sets.specs.laws.Bools.{either, clash, not-false, not-yes, not-no, and-yes, apart, apart-not, apart-same, not-own, implied, implies}
 use Rattle.sets.specs.laws.Members.{has-meet}
 use Rattle.sets.specs.laws.Bounds.{has-out, meet-lt}
 use Rattle.sets.specs.laws.Build.{has-setOf, has-setOf-out, is-setOf}
@@ -22,36 +22,7 @@ use Rattle.network.specs.declared.Message.{Message}
 use Rattle.network.specs.declared.Network.{Network}
 use Rattle.network.specs.Network.{peer, topic, message, neighboursOf, pendingOf, seenOf, knownOf, present, subscribed, linked, pending, saw, knows, Shaped}
 use Rattle.network.specs.laws.SoundLaws.{linked-other}
-use Rattle.network.specs.Rules.{ownRight, nearAt, nearRight, backAt, backRight, knownAt, knownRight, apartRight, lowestWrong}
-
--- what a rule asks of each neighbour: that something holds where it is listed
-implied : (x : Bool) {y : Bool} → not x || y ≡ true → x ≡ true → y ≡ true
-implied true k e = k
-implied false k e = clash e refl
-
-implies : (x : Bool) {y : Bool} → (x ≡ true → y ≡ true) → not x || y ≡ true
-implies true h = h refl
-implies false h = refl
-
-listed-not : (x y : Bool) → not x || y ≡ false → (x ≡ true) × (y ≡ false)
-listed-not x y h = let e = or-no (not x) y h in (not-no x (e .0), e .1)
-
--- two Booleans that differ, or do not
-apart-yes-not : (x y : Bool) → apart x y ≡ true → x ≡ not y
-apart-yes-not true true h = sym h
-apart-yes-not true false h = refl
-apart-yes-not false true h = refl
-apart-yes-not false false h = h
-
-apart-no-same : (x y : Bool) → apart x y ≡ false → x ≡ y
-apart-no-same true true h = refl
-apart-no-same true false h = h
-apart-no-same false true h = sym h
-apart-no-same false false h = refl
-
-not-own : (x : Bool) → x ≡ not x → ⊥
-not-own true h = clash refl h
-not-own false h = clash h refl
+use Rattle.network.specs.Rules.{ownRight, nearRight, backRight, knownAt, knownRight, apartRight, lowestWrong}
 
 -- ---- the lowest of 32 that breaks a rule
 
@@ -93,49 +64,31 @@ module _ (n : Network) (p : Peer) where
   unfolding ownRight
   own-no h = ap not h
 
-  -- ---- "each neighbour q is present"
+  -- ---- a rule about each neighbour: something holds of whoever is listed
 
-  pub near-at : (q : Peer) → nearAt n p (q .0) ≡ true → linked n p q ≡ true → present n q ≡ true
-  near-at q h = implied (linked n p q) h
+  each-why : Shaped n → (good : Peer → Bool) → all 32 (λ (q : ℕ). not (linked n p (peer q)) || good (peer q)) ≡ true → (q : Peer) → linked n p q ≡ true → good q ≡ true
+  each-why s good h q e = implied (linked n p q) (all-why 32 (λ (i : ℕ). not (linked n p (peer i)) || good (peer i)) h (q .0) (linked-other s p q e)) e
 
-  pub near-holds : (q : Peer) → (linked n p q ≡ true → present n q ≡ true) → nearAt n p (q .0) ≡ true
-  near-holds q h = implies (linked n p q) h
+  each-yes : (good : Peer → Bool) → ((q : Peer) → linked n p q ≡ true → good q ≡ true) → all 32 (λ (q : ℕ). not (linked n p (peer q)) || good (peer q)) ≡ true
+  each-yes good h = all-yes 32 (λ (i : ℕ). not (linked n p (peer i)) || good (peer i)) λ q l. implies (linked n p (peer q)) (h (peer q))
 
-  pub near-wrong : (q : Peer) → nearAt n p (q .0) ≡ false → (linked n p q ≡ true) × (present n q ≡ false)
-  near-wrong q h = listed-not (linked n p q) (present n q) h
-
-  pub near-breaks : (q : Peer) → linked n p q ≡ true → present n q ≡ false → nearAt n p (q .0) ≡ false
-  near-breaks q a b = rw (a, b)
-
+  -- "each neighbour q is present"
   pub near-why : Shaped n → nearRight n p ≡ true → (q : Peer) → linked n p q ≡ true → present n q ≡ true
   unfolding nearRight
-  near-why s h q e = near-at q (all-why 32 (nearAt n p) h (q .0) (linked-other s p q e)) e
+  near-why s = each-why s (λ (q : Peer). present n q)
 
   pub near-yes : ((q : Peer) → linked n p q ≡ true → present n q ≡ true) → nearRight n p ≡ true
   unfolding nearRight
-  near-yes h = all-yes 32 (nearAt n p) λ q l. near-holds (peer q) (h (peer q))
+  near-yes = each-yes (λ (q : Peer). present n q)
 
-  -- ---- "and lists p"
-
-  pub back-at : (q : Peer) → backAt n p (q .0) ≡ true → linked n p q ≡ true → linked n q p ≡ true
-  back-at q h = implied (linked n p q) h
-
-  pub back-holds : (q : Peer) → (linked n p q ≡ true → linked n q p ≡ true) → backAt n p (q .0) ≡ true
-  back-holds q h = implies (linked n p q) h
-
-  pub back-wrong : (q : Peer) → backAt n p (q .0) ≡ false → (linked n p q ≡ true) × (linked n q p ≡ false)
-  back-wrong q h = listed-not (linked n p q) (linked n q p) h
-
-  pub back-breaks : (q : Peer) → linked n p q ≡ true → linked n q p ≡ false → backAt n p (q .0) ≡ false
-  back-breaks q a b = rw (a, b)
-
+  -- "and lists p"
   pub back-why : Shaped n → backRight n p ≡ true → (q : Peer) → linked n p q ≡ true → linked n q p ≡ true
   unfolding backRight
-  back-why s h q e = back-at q (all-why 32 (backAt n p) h (q .0) (linked-other s p q e)) e
+  back-why s = each-why s (λ (q : Peer). linked n q p)
 
   pub back-yes : ((q : Peer) → linked n p q ≡ true → linked n q p ≡ true) → backRight n p ≡ true
   unfolding backRight
-  back-yes h = all-yes 32 (backAt n p) λ q l. back-holds (peer q) (h (peer q))
+  back-yes = each-yes (λ (q : Peer). linked n q p)
 
   -- ---- "for every topic t, the known subscribers are exactly the neighbours subscribed to t"
 
@@ -160,7 +113,7 @@ module _ (n : Network) (p : Peer) where
 
   -- one that is known and should not be, or the reverse
   pub known-wrong : Shaped n → (t : Topic) → knownAt n p (t .0) ≡ false → (q : Peer) × (knows n p t q ≡ not (linked n p q && subscribed n q t))
-  known-wrong s t h = ⊎-elim (λ a. let w = any-why 32 differs a in (peer (w .0), apart-yes-not _ _ (w .2))) (λ a. clash (known-holds s t (same a)) h) (either (any 32 differs))
+  known-wrong s t h = ⊎-elim (λ a. let w = any-why 32 differs a in (peer (w .0), apart-not _ _ (w .2))) (λ a. clash (known-holds s t (same a)) h) (either (any 32 differs))
     where
       differs : ℕ → Bool
       differs q = apart (knows n p t (peer q)) (to t q)
@@ -169,7 +122,7 @@ module _ (n : Network) (p : Peer) where
       same a q = go (decLt (q .0) 32)
         where
           go : Dec (q .0 < 32) → knows n p t q ≡ linked n p q && subscribed n q t
-          go (yes c) = apart-no-same _ _ (any-no 32 differs a (q .0) c)
+          go (yes c) = apart-same _ _ (any-no 32 differs a (q .0) c)
           go (no c) =
               let l : 32 ≤ q .0 = omega arith in
               has-out 32 (knownOf n p t) (q .0) (s .known-fit _) l ∙ sym (ap (λ (x : Bool). x && subscribed n q t) (has-out 32 (neighboursOf n p) (q .0) (s .neighbours-fit (p .0)) l))

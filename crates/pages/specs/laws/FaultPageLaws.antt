@@ -10,7 +10,7 @@ use lib.Dec.{eqb}
 use lib.ListN.{length, getD}
 use borrow.Author.Tests.{eqb-true, eqb-false}
 use Rattle.sets.specs.Set.{digit}
-use Rattle.sets.specs.laws.Bools.{either, clash}
+use Rattle.sets.specs.laws.Bools.{either, clash, implied, implies, implied-not, implies-not}
 use Rattle.sets.specs.laws.Any.{all-no}
 use Rattle.endian.specs.laws.Le.{Bytes, le-4}
 use Rattle.network.specs.declared.Peer.{Peer}
@@ -22,8 +22,8 @@ use Rattle.network.specs.Rules.{ownRight, nearAt, nearRight, backAt, backRight,
 use Rattle.network.specs.State.{word, wordIn, netOf, faultAt, openedBy, openOf, writeOf}
 use Rattle.network.specs.laws.Rules.{faultIn}
 use Rattle.network.specs.laws.Faults.{fault-21, fault-22, fault-23, fault-24, fault-25, fault-26, fault-none, fault-empty, fault-head, fault-absent, fault-present, detail-0, verdict-is, verdict-none, verdict-one}
-use Rattle.network.specs.laws.RuleLaws.{wrong-some, wrong-there, wrong-below, wrong-is, own-why, own-yes, own-not, own-no, near-at, near-holds, near-wrong, near-breaks, near-why, near-yes}
-use Rattle.network.specs.laws.RuleLaws.{back-at, back-holds, back-wrong, back-breaks, back-why, back-yes, known-at, known-holds, known-wrong, known-breaks, known-why, known-yes, apart-why, apart-yes, apart-wrong, apart-breaks}
+use Rattle.network.specs.laws.RuleLaws.{wrong-some, wrong-there, wrong-below, wrong-is, own-why, own-yes, own-not, own-no, near-why, near-yes}
+use Rattle.network.specs.laws.RuleLaws.{back-why, back-yes, known-at, known-holds, known-wrong, known-breaks, known-why, known-yes, apart-why, apart-yes, apart-wrong, apart-breaks}
 use Rattle.network.specs.laws.SoundLaws.{linked-other}
 use Rattle.network.specs.laws.SoundIff.{kept-present, kept-absent}
 use Rattle.network.specs.laws.OpenedSound.{net-shaped, head-is, fault-head-right, accepted, opened-sound}
@@ -97,8 +97,8 @@ module _ {n : Network} (s : Shaped n) (p : Peer) where
 
           wrong : backRight n p ≡ false → Broken
           wrong x =
-              let w = back-wrong n p (peer d) (wrong-there (backAt n p) (wrong-some (backAt n p) x)) in
-              by (fault-24 n p o r x ∙ sym (there a)) (not-listed-back a (own-why n p o) (near-why n p s r) (peer d) (w .0) (w .1) λ q c. back-at n p q (wrong-below (backAt n p) (q .0) c))
+              let w = implied-not _ _ (wrong-there (backAt n p) (wrong-some (backAt n p) x)) in
+              by (fault-24 n p o r x ∙ sym (there a)) (not-listed-back a (own-why n p o) (near-why n p s r) (peer d) (w .0) (w .1) λ q c. implied _ (wrong-below (backAt n p) (q .0) c))
 
       from-near : Broken
       unfolding detailOf nearRight
@@ -109,8 +109,8 @@ module _ {n : Network} (s : Shaped n) (p : Peer) where
 
           wrong : nearRight n p ≡ false → Broken
           wrong x =
-              let w = near-wrong n p (peer d) (wrong-there (nearAt n p) (wrong-some (nearAt n p) x)) in
-              by (fault-23 n p o x ∙ sym (there a)) (neighbour-absent a (own-why n p o) (peer d) (w .0) (w .1) λ q c. near-at n p q (wrong-below (nearAt n p) (q .0) c))
+              let w = implied-not _ _ (wrong-there (nearAt n p) (wrong-some (nearAt n p) x)) in
+              by (fault-23 n p o x ∙ sym (there a)) (neighbour-absent a (own-why n p o) (peer d) (w .0) (w .1) λ q c. implied _ (wrong-below (nearAt n p) (q .0) c))
 
     breaks : Broken
     unfolding detailOf
@@ -128,12 +128,12 @@ module _ {n : Network} (s : Shaped n) (p : Peer) where
   broken (own-neighbour a h) = (fault-22 n p (own-no n p h) ∙ sym (there a), refl, λ z. omega arith)
   broken (neighbour-absent a o d h g below) =
       let l = linked-other s p d h in
-      let w = near-breaks n p d h g in
-      (fault-23 n p (own-yes n p o) (all-no 32 (nearAt n p) (d .0) l w) ∙ sym (there a), wrong-is (nearAt n p) (d .0) l w (λ j c. near-holds n p (peer j) (below (peer j) c)), λ z. omega arith)
+      let w : nearAt n p (d .0) ≡ false = implies-not h g in
+      (fault-23 n p (own-yes n p o) (all-no 32 (nearAt n p) (d .0) l w) ∙ sym (there a), wrong-is (nearAt n p) (d .0) l w (λ j c. implies _ (below (peer j) c)), λ z. omega arith)
   broken (not-listed-back a o r d h g below) =
       let l = linked-other s p d h in
-      let w = back-breaks n p d h g in
-      (fault-24 n p (own-yes n p o) (near-yes n p r) (all-no 32 (backAt n p) (d .0) l w) ∙ sym (there a), wrong-is (backAt n p) (d .0) l w (λ j c. back-holds n p (peer j) (below (peer j) c)), λ z. omega arith)
+      let w : backAt n p (d .0) ≡ false = implies-not h g in
+      (fault-24 n p (own-yes n p o) (near-yes n p r) (all-no 32 (backAt n p) (d .0) l w) ∙ sym (there a), wrong-is (backAt n p) (d .0) l w (λ j c. implies _ (below (peer j) c)), λ z. omega arith)
   broken (subscribers-wrong l t c q h below) =
       let w = known-breaks n p s t q h in (
         fault-25 n p (own-yes n p (l .own)) (near-yes n p (l .near)) (back-yes n p (l .back)) (all-no 32 (knownAt n p) (t .0) c w) ∙ sym (there (l .here)),

@@ -114,6 +114,38 @@ apart-true false = refl
 pub apart-and : (a b : Bool) → apart a (a && b) ≡ a && not b
 apart-and = bool2 (λ (a b : Bool). apart a (a && b) ≡ a && not b) refl refl refl refl
 
+-- Two that differ, or do not.
+pub apart-not : (a b : Bool) → apart a b ≡ true → a ≡ not b
+apart-not true true h = sym h
+apart-not true false h = refl
+apart-not false true h = refl
+apart-not false false h = h
+
+pub apart-same : (a b : Bool) → apart a b ≡ false → a ≡ b
+apart-same true true h = refl
+apart-same true false h = h
+apart-same false true h = sym h
+apart-same false false h = refl
+
+pub not-own : (a : Bool) → a ≡ not a → ⊥
+not-own true h = clash refl h
+not-own false h = clash h refl
+
+-- `not a || b`: b holds where a does; both ways, and where it fails.
+pub implied : (a : Bool) {b : Bool} → not a || b ≡ true → a ≡ true → b ≡ true
+implied true k e = k
+implied false k e = clash e refl
+
+pub implies : (a : Bool) {b : Bool} → (a ≡ true → b ≡ true) → not a || b ≡ true
+implies true h = h refl
+implies false h = refl
+
+pub implied-not : (a b : Bool) → not a || b ≡ false → (a ≡ true) × (b ≡ false)
+implied-not a b h = let e = or-no (not a) b h in (not-no a (e .0), e .1)
+
+pub implies-not : {a b : Bool} → a ≡ true → b ≡ false → not a || b ≡ false
+implies-not e f = rw (e, f)
+
 -- ---- equal numbers
 
 -- A number equals itself.

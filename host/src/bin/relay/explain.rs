@@ -82,6 +82,7 @@ fn explain_file(name: &str, bytes: &[u8], out: &mut dyn Write) -> Result<(), Tro
 #[cfg(test)]
 mod tests {
     use super::*;
+    use relay_host::raw::NO_ENGINE;
     use relay_host::Reason;
 
     /// What is written, and the status that the tool ends with.
@@ -111,7 +112,8 @@ mod tests {
     #[test]
     fn every_number_is_explained_and_no_other() {
         for number in 1..=u8::MAX {
-            match (Reason::of_number(number), paragraph(number)) {
+            let own = (number == NO_ENGINE).then_some(Reason::NoEngine);
+            match (Reason::of_number(number).or(own), paragraph(number)) {
                 (Some(reason), Some((title, text))) => {
                     assert_eq!(title, format!("{number}: {}", reason.meaning()));
                     assert!(text.contains("What to do: "), "{text}");

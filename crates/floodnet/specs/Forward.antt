@@ -1,9 +1,10 @@
 -- Forward (document 01): "Forward of m by p: m moves from pending to seen at p; then each known subscriber of m's topic at
--- p gets m pending, unless m is pending or seen there. Each peer so changed is one delivery, and a single forward reports
--- their number [..] origin and previous sender have no exemption." Assumes nothing.
+-- p gets m pending, unless m is pending or seen there. Each peer so changed is one delivery, [..] origin and previous sender
+-- have no exemption." What is reported (document 02, E2): "the set of peers that newly hold the message; the count becomes the
+-- size of that set." Assumes nothing.
 use Prim.Native.Nat.{ℕ}
 use lib.ListN.{set}
-use Rattle.sets.specs.Set.{has, union, minus, only, withIf, size}
+use Rattle.sets.specs.Set.{has, union, minus, only, withIf}
 use Rattle.lists.specs.Edit.{edit}
 use Rattle.network.specs.declared.Peer.{Peer}
 use Rattle.network.specs.declared.Message.{Message}
@@ -18,7 +19,7 @@ moved n p m =
     withSeen (withPending n (set (n .pending) (p .0) (minus (pendingOf n p) (only (m .0)))))
     (set (n .seen) (p .0) (union (seenOf n p) (only (m .0))))
 
--- the known subscribers of m's topic at p that do not hold m, once it has moved
+-- who newly holds m: the known subscribers of m's topic at p that do not hold m, once it has moved
 unfoldable pub receivers : Network → Table → Peer → Message → ℕ
 receivers n b p m = minus (knownOf n p (topicOf b m)) (holders (moved n p m) (knownOf n p (topicOf b m)) m)
 
@@ -28,7 +29,3 @@ given n r m = withPending n (edit (λ q w. withIf (has r q) (m .0) w) (n .pendin
 
 unfoldable pub forwarded : Network → Table → Peer → Message → Network
 forwarded n b p m = given (moved n p m) (receivers n b p m) m
-
--- "Each peer so changed is one delivery"
-unfoldable pub deliveries : Network → Table → Peer → Message → ℕ
-deliveries n b p m = size (receivers n b p m)

@@ -1,7 +1,7 @@
 -- The words of the contracts on lent arrays: a network with some arrays in place of its own, and what one event makes of it. Assumes nothing.
 use mathlib.Core.Path.{_≡_}
 use mathlib.Core.List.{List}
-use Prim.Native.Nat.{ℕ, _/_, _%_, _≤_}
+use Prim.Native.Nat.{ℕ, _/_, _%_}
 use lib.ListN.{getD}
 use Rattle.sets.specs.Set.{has, sift, puts, when}
 use Rattle.network.specs.declared.Network.{Network}
@@ -36,4 +36,3 @@ withTopics n present pubs subs = withSubs (withPubs (withPresent n present) pubs
 pub record Stepped (n n′ : Network) (b : Table) (e : Event) (r : Turned) : Type 0 where
   pub state : n′ ≡ after n b e
   pub answer : r ≡ turnedOf n b e
-  pub few : r .deliveries ≤ 32

@@ -9,7 +9,7 @@ use Rattle.events.specs.declared.kind.Kind.{Kind}
 use Rattle.events.specs.Kind.{kindOf}
 use Rattle.floodnet.specs.declared.Turned.{Turned}
 use Rattle.floodnet.specs.Produce.{produced}
-use Rattle.floodnet.specs.Forward.{forwarded, deliveries}
+use Rattle.floodnet.specs.Forward.{forwarded, receivers}
 use Rattle.floodnet.specs.Topics.{subscribedTo, unsubscribedFrom}
 use Rattle.floodnet.specs.Links.{left, joined}
 use Rattle.floodnet.specs.Refusals.{refusalProduce, refusalForward, refusalTopics, refusalLeave, refusalJoin}
@@ -43,20 +43,20 @@ ifAccepted (suc k) x n = n
 unfoldable pub after : Network → Table → Event → Network
 after n b e = ifAccepted (refusal n b e) (effect n b e) n
 
--- how many deliveries an accepted event makes
-unfoldable pub deliveriesOf : Network → Table → Event → ℕ
-deliveriesOf n b Skip = 0
-deliveriesOf n b (Produce p m) = 0
-deliveriesOf n b (Forward p m) = deliveries n b p m
-deliveriesOf n b (Subscribe p topics) = 0
-deliveriesOf n b (Unsubscribe p topics) = 0
-deliveriesOf n b (Leave p) = 0
-deliveriesOf n b (Join p j) = 0
+-- to whom an accepted event delivers: only a forward has receivers
+unfoldable pub receiversOf : Network → Table → Event → ℕ
+receiversOf n b Skip = 0
+receiversOf n b (Produce p m) = 0
+receiversOf n b (Forward p m) = receivers n b p m
+receiversOf n b (Subscribe p topics) = 0
+receiversOf n b (Unsubscribe p topics) = 0
+receiversOf n b (Leave p) = 0
+receiversOf n b (Join p j) = 0
 
--- the answer: the number, the kind of the event, and its deliveries; a refused event makes none
+-- the answer: the number, the kind of the event, and its receivers; a refused event has none
 unfoldable pub turned : ℕ → Kind → ℕ → Turned
-turned zero kind d = record { number = 0; kind = kind; deliveries = d }
-turned (suc k) kind d = record { number = suc k; kind = kind; deliveries = 0 }
+turned zero kind to = record { number = 0; kind = kind; receivers = to }
+turned (suc k) kind to = record { number = suc k; kind = kind; receivers = 0 }
 
 unfoldable pub turnedOf : Network → Table → Event → Turned
-turnedOf n b e = turned (refusal n b e) (kindOf e) (deliveriesOf n b e)
+turnedOf n b e = turned (refusal n b e) (kindOf e) (receiversOf n b e)

@@ -7,6 +7,7 @@ pub mod LeaveJoin
 pub mod LinksLaws
 pub mod Places
 pub mod ProduceLaws
+pub mod ReceiverLaws
 pub mod RecordLaws
 pub mod Settled
 pub mod StepLaws

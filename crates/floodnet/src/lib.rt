@@ -3,7 +3,6 @@
 // `turnedOf`. Read specs/Step.antt, then the definitions it puts together: Refusals, Produce, Forward, Topics, Links. The
 // words of the contracts on lent arrays are specs/Lent.antt; proofs/Code*.antt are laws that the proofs of functions use.
 ghost use mathlib.Core.Path.{_≡_};
-ghost use Prim.Native.Nat.{_≤_};
 ghost use Rattle.network.specs.declared.Network.{Network};
 ghost use Rattle.network.specs.Network.{withAll, Rows};
 ghost use Rattle.events.specs.Fits.{EventFits};
@@ -19,12 +18,12 @@ mod links; // links.rt: what subscribe, unsubscribe, leave and join do
 mod refusals; // refusals.rt: what the events ask
 pub mod turns; // turns.rt: an event of each kind, asked and done; the single forward calls its own
 
-// What one event comes to: 0 or the number of the refusal; the kind of the event, refused or not; and the deliveries of an
-// accepted forward, else 0.
+// What one event comes to: 0 or the number of the refusal; the kind of the event, refused or not; and the receivers of an
+// accepted forward, the set of peers that newly hold its message, else none.
 pub struct Turned {
     pub number: u8,
     pub kind: Kind,
-    pub deliveries: u32,
+    pub receivers: u32,
 }
 
 // One event: asked, and done if nothing refuses it.
@@ -49,7 +48,6 @@ pub fn step(
     ensures { λ r. ⌜ ((n : Network) → r ≡ turnedOf
         (withAll n (now (present .entry)) (now (pubs .entry)) (now (subs .entry)) (now (neighbours .entry)) (now (pending .entry))
         (now (seen .entry)) (now (known .entry))) (table (now (topics .entry)) (now (origins .entry))) e) ⌝ }
-    ensures { λ r. ⌜ r .deliveries ≤ 32 ⌝ }
 {
     match e {
         Event::Skip => turns::done(Kind::Skip, 0),

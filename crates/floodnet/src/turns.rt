@@ -23,25 +23,25 @@ use network::Message;
 use network::Peer;
 
 // The answer to an accepted event.
-pub(crate) fn done(kind: Kind, count: u32) -> Turned
-    ensures { λ r. ⌜ r ≡ turned 0 kind count ⌝ }
+pub(crate) fn done(kind: Kind, receivers: u32) -> Turned
+    ensures { λ r. ⌜ r ≡ turned 0 kind receivers ⌝ }
 {
     Turned {
         number: 0,
         kind,
-        deliveries: count,
+        receivers,
     }
 }
 
-// The answer to a refused event: it delivers nothing.
+// The answer to a refused event: nobody receives anything.
 fn refused(number: u8, kind: Kind) -> Turned
     requires { ⌜ 0 < number ⌝ }
-    ensures { λ r. ⌜ ((count : ℕ) → r ≡ turned number kind count) ⌝ }
+    ensures { λ r. ⌜ ((receivers : ℕ) → r ≡ turned number kind receivers) ⌝ }
 {
     Turned {
         number,
         kind,
-        deliveries: 0,
+        receivers: 0,
     }
 }
 
@@ -89,8 +89,7 @@ pub fn forward(
         return refused(k, Kind::Forward);
     }
     let receivers = messages::forward(pending, seen, known, topics, p, m);
-    let count = sets::size32(receivers);
-    done(Kind::Forward, count)
+    done(Kind::Forward, receivers)
 }
 
 pub(crate) fn subscribe(

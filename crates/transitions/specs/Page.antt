@@ -8,10 +8,9 @@
 -- event and o the one after it. `has w i`: the set w has the member i. Assumes nothing.
 use mathlib.Core.Path.{_≡_}
 use mathlib.Core.Logic.{_⊎_, _↔_}
-use mathlib.Core.Bool.{true, false, _&&_, not}
+use mathlib.Core.Bool.{true, false}
 use Prim.Native.Nat.{ℕ, _<_, _^_}
-use Rattle.sets.specs.Set.{has, digit}
-use Rattle.sets.specs.Sums.{sum}
+use Rattle.sets.specs.Set.{has}
 use Rattle.network.specs.declared.Peer.{Peer}
 use Rattle.network.specs.declared.Topic.{Topic}
 use Rattle.network.specs.declared.Message.{Message}
@@ -20,7 +19,8 @@ use Rattle.network.specs.declared.Table.{Table}
 use Rattle.network.specs.Network.{peer, message, present, publishes, subscribed, linked, pending, saw, knows, topicOf, originOf}
 use Rattle.events.specs.declared.Joining.{Joining}
 use Rattle.events.specs.declared.Event.the-variants as kind
-use Rattle.floodnet.specs.Step.{refusal, effect, deliveriesOf}
+use Rattle.floodnet.specs.Step.{refusal, effect, receiversOf}
+use Rattle.transitions.specs.Receivers.{Receives}
 
 -- ---- what stays as it was
 
@@ -87,9 +87,9 @@ pub record ProducePage (n : Network) (b : Table) (p : Peer) (m : Message) : Type
 -- ---- forward
 
 -- 004's forward takes a peer and a message that is pending there; the message moves to the peer's seen set, and becomes pending at each peer
--- that the forwarder has as a subscriber of its topic, unless that one holds it. 01's changes: each peer so changed is counted as a delivery. 01
+-- that the forwarder has as a subscriber of its topic, unless that one holds it. 01's changes: each peer so changed is a delivery, and E2's: their set is answered. 01
 -- follows the code of 004: any holder may forward, and neither the origin nor the previous sender is left out.
-pub record Forwards (n o : Network) (b : Table) (p : Peer) (m : Message) (count : ℕ) : Type 0 where
+pub record Forwards (n o : Network) (b : Table) (p : Peer) (m : Message) (to : ℕ) : Type 0 where
   -- what is seen: what was, and m at p
   pub now-seen : (q : Peer) (k : Message) → (saw o q k ≡ true) ↔ ((saw n q k ≡ true) ⊎ ((q .0 ≡ p .0) × (k .0 ≡ m .0)))
   -- what is pending: not m at p; else what was, and m where p knows a subscriber of its topic that has not seen it
@@ -97,8 +97,9 @@ pub record Forwards (n o : Network) (b : Table) (p : Peer) (m : Message) (count 
       → (pending o q k ≡ true)
       ↔ ((((q .0 ≡ p .0) × (k .0 ≡ m .0)) → ⊥)
       × ((pending n q k ≡ true) ⊎ ((saw n q k ≡ false) × (k .0 ≡ m .0) × (knows n p (topicOf b m) q ≡ true))))
-  -- the deliveries: one for each known subscriber that had it neither pending nor seen
-  pub deliveries : count ≡ sum 32 (λ (q : ℕ). digit (knows n p (topicOf b m) (peer q) && (not (pending n (peer q) m) && not (saw n (peer q) m))))
+  -- who receives it: in the words of E2, and in 01's, each known subscriber that had it neither pending nor seen
+  pub receives : Receives n o b p m to
+  pub known : (q : Peer) → (has to (q .0) ≡ true) ↔ ((knows n p (topicOf b m) q ≡ true) × (pending n q m ≡ false) × (saw n q m ≡ false))
   -- nothing else changes
   pub now-present : SamePresent n o
   pub now-publishes : SamePublishes n o
@@ -113,7 +114,7 @@ pub record ForwardPage (n : Network) (b : Table) (p : Peer) (m : Message) : Type
   pub refused-13 : (refusal n b (kind.Forward p m) ≡ 13) ↔ ((present n p ≡ true) × (pending n p m ≡ false))
   -- else it is accepted
   pub accepted : (refusal n b (kind.Forward p m) ≡ 0) ↔ ((present n p ≡ true) × (pending n p m ≡ true))
-  pub does : refusal n b (kind.Forward p m) ≡ 0 → Forwards n (effect n b (kind.Forward p m)) b p m (deliveriesOf n b (kind.Forward p m))
+  pub does : refusal n b (kind.Forward p m) ≡ 0 → Forwards n (effect n b (kind.Forward p m)) b p m (receiversOf n b (kind.Forward p m))
 
 -- ---- subscribe and unsubscribe
 

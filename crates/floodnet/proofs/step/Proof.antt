@@ -4,7 +4,7 @@ use mathlib.Core.Path.{refl}
 use Rattle.network.specs.Network.{withPubs, withSubs, withNeighbours, withPending, withSeen, withKnown}
 use Rattle.events.specs.Fits.{EventFits}
 use Rattle.events.specs.Kind.{kindOf}
-use Rattle.floodnet.specs.Step.{refusal, effect, deliveriesOf}
+use Rattle.floodnet.specs.Step.{refusal, effect, receiversOf}
 use Rattle.floodnet.proofs.CodeTurns.{fits-as, stepped-as, stepped-done}
 use Rattle.floodnet.proofs.step.Statement.{statement}
 use Rattle.floodnet.proofs.step.Tie as tie
@@ -81,8 +81,8 @@ unfolding EventFits
 join-requires c κs = (fits-as (as-join c .e6 .given .1) (as-join c .before .before .pre .0)) .0
 
 returns : tie.Need-returns
-unfolding refusal effect kindOf deliveriesOf
-returns c = stepped-as (c .before .enum-told .given .1) (λ n. stepped-done 0 refl refl refl (c .done .ensures) refl (search needs))
+unfolding refusal effect kindOf receiversOf
+returns c = stepped-as (c .before .enum-told .given .1) (λ n. stepped-done 0 refl refl refl (c .done .ensures) refl)
 
 returns-2 : tie.Need-returns-2
 returns-2 c = stepped-as (as-produce (c .before) .e .given .1) (λ n. c .produce .ensures (withKnown (withNeighbours (withSubs n _) _) _))

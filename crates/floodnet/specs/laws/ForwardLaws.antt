@@ -8,7 +8,7 @@ use native.Mathlib.Decide.{decLt}
 use lib.Dec.{eqb}
 use lib.ListN.{length, length-set}
 use borrow.Author.Tests.{eqb-true}
-use Rattle.sets.specs.Set.{has, only, digit}
+use Rattle.sets.specs.Set.{has, only, digit, size}
 use Rattle.sets.specs.Sums.{sum}
 use Rattle.sets.specs.laws.Sums.{sum-same}
 use Rattle.sets.specs.laws.Bools.{and-yes, or-yes, not-yes, eqb-same}
@@ -24,7 +24,7 @@ use Rattle.network.specs.declared.Table.{Table}
 use Rattle.network.specs.Network.{peer, pendingOf, seenOf, knownOf, present, publishes, subscribed, linked, pending, saw, knows, topicOf, Shaped, Rows}
 use Rattle.network.specs.Sound.{Sound}
 use Rattle.network.specs.laws.SoundLaws.{pending-peer, pending-message, pending-present, saw-present, knows-present}
-use Rattle.floodnet.specs.Forward.{moved, receivers, given, forwarded, deliveries}
+use Rattle.floodnet.specs.Forward.{moved, receivers, given, forwarded}
 use Rattle.floodnet.specs.laws.Places.{has-set-with, has-set-without, has-edit-with}
 use Rattle.floodnet.specs.laws.Keeping.{stored, edited, shaped-pending, shaped-seen, holding-sound}
 use Rattle.floodnet.specs.laws.ProduceLaws.{has-holders}
@@ -208,13 +208,12 @@ forwarded-sound {n} s {b} rows p m a =
     apart q k (inl x) = s .apart q k x
     apart q k (inr x) = x .0
 
--- ---- the number of deliveries
+-- ---- the number of receivers
 
 -- One for each known subscriber that does not hold m.
-pub deliveries-sum : {n : Network} → Shaped n → (b : Table) (p : Peer) (m : Message) → pending n p m ≡ true
-    → deliveries n b p m ≡ sum 32 (λ (q : ℕ). digit (knows n p (topicOf b m) (peer q) && (not (pending n (peer q) m) && not (saw n (peer q) m))))
-unfolding deliveries
-deliveries-sum {n} s b p m a = size-sum 32 (receivers n b p m) (receivers-lt s b p m) ∙ sum-same 32 _ _ λ q l. ap digit (receivers-pending s b p m a (peer q))
+pub receivers-sum : {n : Network} → Shaped n → (b : Table) (p : Peer) (m : Message) → pending n p m ≡ true
+    → size (receivers n b p m) ≡ sum 32 (λ (q : ℕ). digit (knows n p (topicOf b m) (peer q) && (not (pending n (peer q) m) && not (saw n (peer q) m))))
+receivers-sum {n} s b p m a = size-sum 32 (receivers n b p m) (receivers-lt s b p m) ∙ sum-same 32 _ _ λ q l. ap digit (receivers-pending s b p m a (peer q))
 
 pub forwarded-publishes : (n : Network) (b : Table) (p : Peer) (m : Message) (q : Peer) (t : Topic) → publishes (forwarded n b p m) q t ≡ publishes n q t
 unfolding forwarded given moved

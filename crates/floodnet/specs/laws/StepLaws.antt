@@ -9,7 +9,8 @@ use lib.ListN.{set}
 use lib.Seq.{set-getD}
 use borrow.Author.Tests.{eqb-true}
 use Rattle.sets.specs.laws.Bools.{not-yes}
-use Rattle.sets.specs.Set.{has, minus, digit}
+use Rattle.sets.specs.Set.{has, minus, digit, size}
+use Rattle.sets.specs.laws.Sizes.{size-none}
 use Rattle.network.specs.declared.Peer.{Peer}
 use Rattle.network.specs.declared.Message.{Message}
 use Rattle.network.specs.declared.Network.{Network}
@@ -26,7 +27,7 @@ use Rattle.floodnet.specs.Produce.{isNew}
 use Rattle.floodnet.specs.Links.{left, linkDown, cleared}
 use Rattle.floodnet.specs.Topics.{subscribedTo, unsubscribedFrom}
 use Rattle.floodnet.specs.Refusals.{refusalProduce, refusalForward, refusalTopics, refusalLeave, refusalJoin}
-use Rattle.floodnet.specs.Step.{refusal, effect, ifAccepted, after, deliveriesOf}
+use Rattle.floodnet.specs.Step.{refusal, effect, ifAccepted, after, receiversOf}
 use Rattle.floodnet.specs.laws.ProduceLaws.{produced-sound, new-why}
 use Rattle.floodnet.specs.laws.ForwardLaws.{forwarded-sound}
 use Rattle.floodnet.specs.laws.TopicsLaws.{subscribed-sound, unsubscribed-sound}
@@ -92,7 +93,7 @@ after-sound {n} {b} s r e f = first (refusal n b e) refl
     first zero h = effect-sound s r e f h
     first (suc k) h = s
 
--- ---- pairs pending: one more for a produce; one less and its deliveries for a forward; else as before
+-- ---- pairs pending: one more for a produce; one less, and one for each receiver, for a forward; else as before
 
 -- 1 for an event of this kind
 abbrev pub isKind : Event → Kind → ℕ
@@ -103,9 +104,9 @@ unfolding left linkDown cleared
 left-pending n p h = ap (set (n .pending) (p .0)) (sym h) ∙ set-getD (n .pending) (p .0) 0
 
 -- what keeps the pending words keeps the pairs
-same-pairs : (n o : Network) → o .pending ≡ n .pending → pairs o + 0 ≡ pairs n + (0 + 0)
+same-pairs : (n o : Network) → o .pending ≡ n .pending → pairs o + 0 ≡ pairs n + (0 + size 0)
 unfolding pairs
-same-pairs n o e = rw e
+same-pairs n o e = rw (e, size-none)
 
 subscribe-keeps : (n : Network) (p : Peer) (topics : ℕ) → subscribedTo n p topics .pending ≡ n .pending
 unfolding subscribedTo
@@ -116,12 +117,12 @@ unfolding unsubscribedFrom
 unsubscribe-keeps n p topics = refl
 
 pub effect-pairs : {n : Network} {b : Table} → Sound n → Rows b → (e : Event) → EventFits e → refusal n b e ≡ 0
-    → pairs (effect n b e) + isKind e Kind.Forward ≡ pairs n + (isKind e Kind.Produce + deliveriesOf n b e)
-unfolding refusal effect EventFits kindOf codeOf alike deliveriesOf
-effect-pairs {n} {b} s r Skip f h = refl
+    → pairs (effect n b e) + isKind e Kind.Forward ≡ pairs n + (isKind e Kind.Produce + size (receiversOf n b e))
+unfolding refusal effect EventFits kindOf codeOf alike receiversOf
+effect-pairs {n} {b} s r Skip f h = same-pairs n n refl
 effect-pairs {n} {b} s r (Produce p m) f h =
     let x = produce-met n b p m h in
-    omega (arith, produced-pairs (s .shaped) p m (f .0) (new-why (s .shaped) m (x .3) p (x .0) .0))
+    omega (arith, produced-pairs (s .shaped) p m (f .0) (new-why (s .shaped) m (x .3) p (x .0) .0), size-none)
 effect-pairs {n} {b} s r (Forward p m) f h = omega (arith, forwarded-pairs s r p m (forward-met n p m h .1))
 effect-pairs {n} s r (Subscribe p topics) f h = same-pairs n _ (subscribe-keeps n p topics)
 effect-pairs {n} s r (Unsubscribe p topics) f h = same-pairs n _ (unsubscribe-keeps n p topics)

@@ -19,8 +19,8 @@ use Rattle.network.specs.declared.Table.{Table}
 use Rattle.network.specs.Network.{peer, pendingOf, pending, Shaped, Rows}
 use Rattle.network.specs.Sound.{Sound}
 use Rattle.floodnet.specs.Produce.{produced}
-use Rattle.floodnet.specs.Forward.{forwarded, deliveries}
-use Rattle.floodnet.specs.laws.ForwardLaws.{deliveries-sum}
+use Rattle.floodnet.specs.Forward.{forwarded, receivers}
+use Rattle.floodnet.specs.laws.ForwardLaws.{receivers-sum}
 use Rattle.floodnet.specs.View.{view, fwd, pairs}
 use Rattle.floodnet.specs.laws.ViewLaws.{view-sound, fwd-view, fwd-sound}
 
@@ -29,10 +29,10 @@ view-pairs : {n : Network} (b : Table) → Shaped n → pendingPairs 32 64 (view
 unfolding pendingPairs view pairs
 view-pairs {n} b s = sum-same 32 _ _ λ p l. sym (size-sum 64 (pendingOf n (peer p)) (s .pending-fit p))
 
--- So are the deliveries of a forward of a pending message.
-view-delivers : {n : Network} (b : Table) → Shaped n → (p : Peer) (m : Message) → pending n p m ≡ true → delivers 32 (view b n) (p .0) (m .0) ≡ deliveries n b p m
+-- So are the receivers of a forward of a pending message.
+view-delivers : {n : Network} (b : Table) → Shaped n → (p : Peer) (m : Message) → pending n p m ≡ true → delivers 32 (view b n) (p .0) (m .0) ≡ size (receivers n b p m)
 unfolding delivers view
-view-delivers b s p m a = sym (deliveries-sum s b p m a)
+view-delivers b s p m a = sym (receivers-sum s b p m a)
 
 -- A produce of a message that was not pending there adds one.
 pub produced-pairs : {n : Network} → Shaped n → (p : Peer) (m : Message) → p .0 < 32 → pending n p m ≡ false → pairs (produced n p m) ≡ suc (pairs n)
@@ -43,9 +43,9 @@ produced-pairs {n} s p m h a =
     (λ q d. ap size (getD-set-other (n .pending) (p .0) q (union (pendingOf n p) (only (m .0))) 0 d))
     (ap size (getD-set-same (n .pending) (p .0) (union (pendingOf n p) (only (m .0))) 0 l) ∙ size-with (pendingOf n p) (m .0) a)
 
--- A forward takes one, and adds its deliveries.
+-- A forward takes one, and adds one for each receiver.
 pub forwarded-pairs : {n : Network} → Sound n → {b : Table} → Rows b → (p : Peer) (m : Message) → pending n p m ≡ true
-    → suc (pairs (forwarded n b p m)) ≡ pairs n + deliveries n b p m
+    → suc (pairs (forwarded n b p m)) ≡ pairs n + size (receivers n b p m)
 unfolding fwd view
 forwarded-pairs {n} s {b} rows p m a =
     omega (

@@ -16,21 +16,25 @@ use Rattle.network.specs.declared.Peer.{Peer}
 use Rattle.network.specs.declared.Message.{Message}
 use Rattle.network.specs.declared.Network.{Network}
 use Rattle.network.specs.declared.Table.{Table}
-use Rattle.network.specs.Network.{Rows, peer, present, publishes, pending, saw, topicOf, originOf}
+use Rattle.network.specs.Network.{Rows, peer, present, publishes, pending, saw, knows, topicOf, originOf}
 use Rattle.network.specs.Sound.{Sound}
+use Rattle.network.specs.laws.SoundLaws.{knows-present}
 use Rattle.events.specs.declared.Joining.{Joining}
 use Rattle.events.specs.declared.Event.the-variants as kind
 use Rattle.floodnet.specs.Produce.{holders, isNew}
+use Rattle.floodnet.specs.Forward.{receivers, forwarded}
 use Rattle.floodnet.specs.Topics.{subscribedTo, unsubscribedFrom}
 use Rattle.floodnet.specs.Links.{joined}
 use Rattle.floodnet.specs.Refusals.{refusalProduce, refusalForward, refusalTopics, refusalLeave, refusalJoin}
-use Rattle.floodnet.specs.Step.{refusal, effect, deliveriesOf}
+use Rattle.floodnet.specs.Step.{refusal, effect, receiversOf}
 use Rattle.floodnet.specs.laws.ProduceLaws.{has-holders, holders-lt, new-why, new-yes, produced-pending, produced-present, produced-publishes, produced-subscribed, produced-linked, produced-saw, produced-knows}
-use Rattle.floodnet.specs.laws.ForwardLaws.{forwarded-saw, forwarded-pending, forwarded-present, forwarded-publishes, forwarded-subscribed, forwarded-linked, forwarded-knows, deliveries-sum}
+use Rattle.floodnet.specs.laws.ForwardLaws.{forwarded-saw, forwarded-pending, forwarded-present, forwarded-publishes, forwarded-subscribed, forwarded-linked, forwarded-knows, receivers-pending}
+use Rattle.floodnet.specs.laws.ReceiverLaws.{receivers-linked, receivers-new}
 use Rattle.floodnet.specs.laws.TopicsLaws.{SameButTopics, subscribed-rest, unsubscribed-rest, subscribed-more, knows-more, subscribed-less, knows-less}
 use Rattle.floodnet.specs.laws.LeaveJoin.{present-left, publishes-left, subscribed-left, pending-left, saw-left, linked-left, knows-left, present-joined, publishes-joined, subscribed-joined, pending-joined, seen-joined, linked-joined, joined-sound}
 use Rattle.floodnet.specs.laws.StepLaws.{forward-met, join-met}
 use Rattle.transitions.specs.laws.Exactly.{three, four, by, yes-if, or-if, and-if, and3-if, not-if, no-if, yes-not, eq-if, ne-if, cond-if, need-is, need-on, need-not, need-last, empty-if, some-if}
+use Rattle.transitions.specs.Receivers.{Receives}
 use Rattle.transitions.specs.Page.{SkipPage, ProducePage, ForwardPage, SubscribePage, UnsubscribePage, LeavePage, Joins, JoinPage, FloodnetPage}
 
 -- ---- the conditions, in observations
@@ -117,8 +121,24 @@ module _ {n : Network} {b : Table} (s : Sound n) (rows : Rows b) where
             };
       }
 
+  forward-known : (p : Peer) (m : Message) → pending n p m ≡ true → (q : Peer)
+      → (has (receivers n b p m) (q .0) ≡ true) ↔ ((knows n p (topicOf b m) q ≡ true) × (pending n q m ≡ false) × (saw n q m ≡ false))
+  forward-known p m a q = by (receivers-pending (s .shaped) b p m a q) (and3-if yes-if no-if no-if)
+
+  forward-receives : (p : Peer) (m : Message) → p .0 < 32 → pending n p m ≡ true → Receives n (forwarded n b p m) b p m (receivers n b p m)
+  forward-receives p m hp a =
+      record {
+        who = λ q. four (by (receivers-linked s rows p m a q) (and-if yes-if (and-if yes-if (and-if no-if no-if))));
+        newly = new;
+        sender = not-false λ h. clash a (new p .0 h .1);
+        present = λ q h. knows-present s p (topicOf b m) q hp (rows .topics-fit (m .0)) (forward-known p m a q .0 h .0);
+      }
+    where
+      new : (q : Peer) → (has (receivers n b p m) (q .0) ≡ true) ↔ ((pending (forwarded n b p m) q m ≡ true) × (pending n q m ≡ false))
+      new q = by (receivers-new (s .shaped) b p m hp q) (and-if yes-if no-if)
+
   forward-page : (p : Peer) (m : Message) → p .0 < 32 → ForwardPage n b p m
-  unfolding refusal effect refusalForward deliveriesOf
+  unfolding refusal effect refusalForward receiversOf
   forward-page p m hp =
       record {
         refused-8 = need-is (present n p) 8 _ (need-not _ 13 0 8 (λ e. omega arith) (λ e. omega arith));
@@ -128,7 +148,8 @@ module _ {n : Network} {b : Table} (s : Sound n) (rows : Rows b) where
             record {
               now-seen = λ q k. by (forwarded-saw (s .shaped) b p m hp q k) (or-if yes-if (and-if eq-if eq-if));
               now-pending = λ q k. by (forwarded-pending (s .shaped) b p m hp q k) (and-if (not-if (and-if eq-if eq-if)) (or-if yes-if (and3-if no-if eq-if yes-if)));
-              deliveries = deliveries-sum (s .shaped) b p m (forward-met n p m z .1);
+              receives = forward-receives p m hp (forward-met n p m z .1);
+              known = forward-known p m (forward-met n p m z .1);
               now-present = forwarded-present n b p m;
               now-publishes = forwarded-publishes n b p m;
               now-subscribed = forwarded-subscribed n b p m;

@@ -1,13 +1,10 @@
 -- `floodnet::turns::forward` meets its contract. Assumes nothing.
 use borrow.Author.Needs.{needs}
-use mathlib.Core.Path.{ap, _∙_}
 use mathlib.Core.List.{[]}
-use Rattle.sets.specs.Set.{size}
-use Rattle.floodnet.specs.Forward.{deliveries}
 use Rattle.network.specs.Network.{withPresent}
 use Rattle.floodnet.specs.Lent.{withMessages}
 use Rattle.events.specs.Kind.{kindOf}
-use Rattle.floodnet.specs.Step.{refusal, effect, deliveriesOf}
+use Rattle.floodnet.specs.Step.{refusal, effect, receiversOf}
 use Rattle.floodnet.proofs.CodeTurns.{stepped-refused, stepped-done}
 use Rattle.floodnet.proofs.turns.forward.Statement.{statement}
 use Rattle.floodnet.proofs.turns.forward.Tie as tie
@@ -29,17 +26,14 @@ returns c = λ n os. stepped-refused _ (c .before .before .of-forward .ensures (
 forward-requires : tie.Need-forward-requires
 forward-requires c κs = search needs
 
-size32-requires : tie.Need-size32-requires
-size32-requires c κs = search needs
-
 done-requires : tie.Need-done-requires
 done-requires c κs = search needs
 
 returns-2 : tie.Need-returns-2
-unfolding refusal effect kindOf deliveriesOf deliveries
+unfolding refusal effect kindOf receiversOf
 returns-2 c =
-    λ n os. stepped-done _ (allowed (c .before .before) .before .of-forward .ensures (withMessages n [] _ _)) (allowed (c .before .before) .if1 .left) (c .before .before .forward .ensures .1 (withPresent n _) os) (c .done .ensures)
-    ((c .before .size32 .ensures .0) ∙ ap size (c .before .before .forward .ensures .0 (withPresent n _) os)) (c .before .size32 .ensures .1)
+    λ n os. stepped-done _ (allowed (c .before) .before .of-forward .ensures (withMessages n [] _ _)) (allowed (c .before) .if1 .left) (c .before .forward .ensures .1 (withPresent n _) os) (c .done .ensures)
+    (c .before .forward .ensures .0 (withPresent n _) os)
 
 pub forward-spec : {M : Type 1} → statement M
 forward-spec =
@@ -49,6 +43,5 @@ forward-spec =
     refused-requires
     returns
     forward-requires
-    size32-requires
     done-requires
     returns-2)

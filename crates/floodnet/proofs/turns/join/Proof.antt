@@ -3,7 +3,7 @@ use borrow.Author.Needs.{needs}
 use mathlib.Core.Path.{refl}
 use Rattle.network.specs.Network.{withAll}
 use Rattle.events.specs.Kind.{kindOf}
-use Rattle.floodnet.specs.Step.{refusal, effect, deliveriesOf}
+use Rattle.floodnet.specs.Step.{refusal, effect, receiversOf}
 use Rattle.floodnet.proofs.CodeTurns.{stepped-refused, stepped-done}
 use Rattle.floodnet.proofs.turns.join.Statement.{statement}
 use Rattle.floodnet.proofs.turns.join.Tie as tie
@@ -29,8 +29,8 @@ done-requires : tie.Need-done-requires
 done-requires c κs = search needs
 
 returns-2 : tie.Need-returns-2
-unfolding refusal effect kindOf deliveriesOf
-returns-2 c = λ n b. stepped-done _ (allowed (c .before) .before .of-join .ensures (withAll n 0 _ _ _ _ _ _)) (allowed (c .before) .if1 .left) (c .before .join .ensures n) (c .done .ensures) refl (search needs)
+unfolding refusal effect kindOf receiversOf
+returns-2 c = λ n b. stepped-done _ (allowed (c .before) .before .of-join .ensures (withAll n 0 _ _ _ _ _ _)) (allowed (c .before) .if1 .left) (c .before .join .ensures n) (c .done .ensures) refl
 
 pub join-spec : {M : Type 1} → statement M
 join-spec =

@@ -3,7 +3,7 @@ use borrow.Author.Needs.{needs}
 use mathlib.Core.Path.{refl}
 use Rattle.network.specs.Network.{withPresent, withPubs, withSeen}
 use Rattle.events.specs.Kind.{kindOf}
-use Rattle.floodnet.specs.Step.{refusal, effect, deliveriesOf}
+use Rattle.floodnet.specs.Step.{refusal, effect, receiversOf}
 use Rattle.floodnet.proofs.CodeTurns.{stepped-refused, stepped-done}
 use Rattle.floodnet.proofs.turns.produce.Statement.{statement}
 use Rattle.floodnet.proofs.turns.produce.Tie as tie
@@ -29,8 +29,8 @@ done-requires : tie.Need-done-requires
 done-requires c κs = search needs
 
 returns-2 : tie.Need-returns-2
-unfolding refusal effect kindOf deliveriesOf
-returns-2 c = λ n. stepped-done _ (allowed (c .before) .before .of-produce .ensures n) (allowed (c .before) .if1 .left) (c .before .produce .ensures (withPresent (withPubs (withSeen n _) _) _)) (c .done .ensures) refl (search needs)
+unfolding refusal effect kindOf receiversOf
+returns-2 c = λ n. stepped-done _ (allowed (c .before) .before .of-produce .ensures n) (allowed (c .before) .if1 .left) (c .before .produce .ensures (withPresent (withPubs (withSeen n _) _) _)) (c .done .ensures) refl
 
 pub produce-spec : {M : Type 1} → statement M
 produce-spec =

@@ -4,7 +4,7 @@ use Rattle.floodnet.proofs.turns.refused.Statement.{statement}
 use Rattle.floodnet.proofs.turns.refused.Tie as tie
 
 returns : tie.Need-returns
-returns c = λ count. turned-refused _ _ count (c .pre)
+returns c = λ to. turned-refused _ _ to (c .pre)
 
 pub refused-spec : {M : Type 1} → statement M
 refused-spec = tie.close (tie.spec returns)

@@ -4,7 +4,7 @@ use mathlib.Core.Path.{refl}
 use Rattle.network.specs.Network.{withPresent}
 use Rattle.floodnet.specs.Lent.{withLinks}
 use Rattle.events.specs.Kind.{kindOf}
-use Rattle.floodnet.specs.Step.{refusal, effect, deliveriesOf}
+use Rattle.floodnet.specs.Step.{refusal, effect, receiversOf}
 use Rattle.floodnet.proofs.CodeTurns.{stepped-refused, stepped-done}
 use Rattle.floodnet.proofs.turns.unsubscribe.Statement.{statement}
 use Rattle.floodnet.proofs.turns.unsubscribe.Tie as tie
@@ -30,8 +30,8 @@ done-requires : tie.Need-done-requires
 done-requires c κs = search needs
 
 returns-2 : tie.Need-returns-2
-unfolding refusal effect kindOf deliveriesOf
-returns-2 c = λ n b. stepped-done _ (allowed (c .before) .before .of-topics .ensures (withLinks n _ _ _)) (allowed (c .before) .if1 .left) (c .before .unsubscribe .ensures (withPresent n _)) (c .done .ensures) refl (search needs)
+unfolding refusal effect kindOf receiversOf
+returns-2 c = λ n b. stepped-done _ (allowed (c .before) .before .of-topics .ensures (withLinks n _ _ _)) (allowed (c .before) .if1 .left) (c .before .unsubscribe .ensures (withPresent n _)) (c .done .ensures) refl
 
 pub unsubscribe-spec : {M : Type 1} → statement M
 unsubscribe-spec =

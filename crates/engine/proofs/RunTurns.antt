@@ -1,7 +1,7 @@
 -- The turns of a run's loop, by what the function that does one event answers. Assumes nothing.
 use mathlib.Core.Path.{_≡_, sym, ap, subst, _∙_}
 use mathlib.Core.List.{List}
-use Prim.Native.Nat.{ℕ, _+_, _≤_, _<_}
+use Prim.Native.Nat.{ℕ, _+_, _^_, _≤_, _<_}
 use native.Mathlib.Omega.{arith}
 use Rattle.network.specs.declared.Network.{Network}
 use Rattle.network.specs.declared.Table.{Table}
@@ -23,7 +23,7 @@ module _ (ev : List ℕ) (b : Table) (count : ℕ) {place : ℕ} {n : Network} {
   pub ran-stop : place < count → {read : Read} → read ≡ readAt ev place → (m : Network) (r : Turned) → Turn b n read m r → (r .number ≡ 0 → ⊥)
       → RunsTo (ranAt (r .number) place place m) t f
   ran-stop h {read} k m r u z =
-      let e : r ≡ outcomeAt ev place b n .turned = u .1 .0 ∙ ap (λ (x : Read). turnOf b n x .turned) k in
+      let e : r ≡ outcomeAt ev place b n .turned = u .1 ∙ ap (λ (x : Read). turnOf b n x .turned) k in
       let no : outcomeAt ev place b n .turned .number ≡ 0 → ⊥ = λ (y : outcomeAt ev place b n .turned .number ≡ 0). z (ap (λ (x : Turned). x .number) e ∙ y) in
       let s : f ≡ stopsAt (outcomeAt ev place b n .turned .number) place t n = going-stop ev b count g h no in
       let w : m ≡ n = u .0 ∙ ap (λ (x : Read). turnOf b n x .network) k ∙ refused-same b n (readAt ev place) no in
@@ -35,12 +35,12 @@ module _ (ev : List ℕ) (b : Table) (count : ℕ) {place : ℕ} {n : Network} {
 
   -- an event is accepted: the run goes on
   pub ran-on : place < count → {read : Read} → read ≡ readAt ev place → (m : Network) (r : Turned) → Turn b n read m r → r .number ≡ 0
-      → (t′ : Tally) → t′ ≡ talliedOf t (r .kind) (r .deliveries) → Going ev b count (place + 1) m t′ f
-  ran-on h {read} k m r u z t′ j =
-      let e : r ≡ outcomeAt ev place b n .turned = u .1 .0 ∙ ap (λ (x : Read). turnOf b n x .turned) k in
-      going-on ev b count g h m t′ (sym (ap (λ (x : Turned). x .number) e) ∙ z) (subst (λ (x : Turned). x .deliveries ≤ 32) e (u .1 .1))
+      → r .receivers < 2 ^ 32 → (t′ : Tally) → t′ ≡ talliedOf t (r .kind) (r .receivers) → Going ev b count (place + 1) m t′ f
+  ran-on h {read} k m r u z few t′ j =
+      let e : r ≡ outcomeAt ev place b n .turned = u .1 ∙ ap (λ (x : Read). turnOf b n x .turned) k in
+      going-on ev b count g h m t′ (sym (ap (λ (x : Turned). x .number) e) ∙ z) (subst (λ (x : Turned). x .receivers < 2 ^ 32) e few)
       (u .0 ∙ ap (λ (x : Read). turnOf b n x .network) k)
-      (j ∙ ap (λ (x : Turned). talliedOf t (x .kind) (x .deliveries)) e)
+      (j ∙ ap (λ (x : Turned). talliedOf t (x .kind) (x .receivers)) e)
 
   -- no event is left
   pub ran-end : count ≤ place → RunsTo (ranAt 0 0 place n) t f

@@ -4,6 +4,7 @@ use mathlib.Core.List.{List}
 use Prim.Native.Nat.{ℕ}
 use lib.Dec.{eqb, ltb}
 use lib.ListN.{length}
+use Rattle.sets.specs.Set.{size}
 use Rattle.network.specs.declared.Network.{Network}
 use Rattle.network.specs.declared.Table.{Table}
 use Rattle.network.specs.declared.Checked.{Checked}
@@ -11,21 +12,21 @@ use Rattle.network.specs.Network.{peer, message}
 use Rattle.network.specs.Rules.{checked}
 use Rattle.network.specs.State.{openOf, bytesOf}
 use Rattle.floodnet.specs.Refusals.{refusalForward}
-use Rattle.floodnet.specs.Forward.{forwarded, deliveries}
+use Rattle.floodnet.specs.Forward.{forwarded, receivers}
 use Rattle.engine.specs.declared.Forwarded.{Forwarded}
 use Rattle.engine.specs.Start.{beginOf}
 use mathlib.Core.Path.{_≡_}
 
--- an answer by its parts
+-- an answer by its parts: "the set of peers that newly hold the message; the count becomes the size of that set" (document 02, E2)
 abbrev pub forwardedBy : ℕ → ℕ → ℕ → ℕ → Forwarded
-forwardedBy number place detail d = record { number = number; detail = detail; place = place; deliveries = d }
+forwardedBy number place detail to = record { number = number; detail = detail; place = place; deliveries = size to; receivers = to }
 
 -- an answer, and the buffer that goes with it
 pub record Forwards : Type 0 where
   pub answer : Forwarded
   pub state : List ℕ
 
--- refused: "a single forward reports their number (0 if refused)", "buffers untouched"
+-- refused: nobody newly holds it, "0 if refused", "buffers untouched"
 abbrev pub noForward : ℕ → ℕ → ℕ → List ℕ → Forwards
 noForward number place detail s = record { answer = forwardedBy number place detail 0; state = s }
 
@@ -36,7 +37,7 @@ forwardOn s n b p m =
     cond (ltb p 32 && ltb m 64)
     (cond (eqb k 0)
     (record {
-      answer = forwardedBy 0 0 0 (deliveries n b (peer p) (message m));
+      answer = forwardedBy 0 0 0 (receivers n b (peer p) (message m));
       state = bytesOf (forwarded n b (peer p) (message m));
     })
     (noForward k 0 0 s))

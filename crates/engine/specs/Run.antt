@@ -6,9 +6,10 @@
 use mathlib.Core.Path.{_≡_}
 use mathlib.Core.Bool.{cond}
 use mathlib.Core.List.{List}
-use Prim.Native.Nat.{ℕ, zero, suc, _+_, _/_, _^_, _≤_, _<_}
+use Prim.Native.Nat.{ℕ, zero, suc, _+_, _/_, _^_, _<_}
 use lib.Dec.{eqb}
 use lib.ListN.{length}
+use Rattle.sets.specs.Set.{size}
 use Rattle.network.specs.declared.Network.{Network}
 use Rattle.network.specs.declared.Table.{Table}
 use Rattle.network.specs.State.{bytesOf}
@@ -35,21 +36,22 @@ tally produced forwards deliveries = record { produced = produced; forwards = fo
 abbrev pub zeroTally : Tally
 zeroTally = tally 0 0 0
 
--- there is room for one event more with d deliveries
-pub record Room (t : Tally) (d : ℕ) : Type 0 where
+-- there is room for one event more, which delivers to all peers at most
+pub record Room (t : Tally) : Type 0 where
   pub produced : t .produced + 1 < 2 ^ 64
   pub forwards : t .forwards + 1 < 2 ^ 64
-  pub deliveries : t .deliveries + d < 2 ^ 64
+  pub deliveries : t .deliveries + 32 < 2 ^ 64
 
--- "Produced and forwards are the accepted events of those kinds; deliveries is the sum of theirs."
+-- "Produced and forwards are the accepted events of those kinds; deliveries is the sum of theirs": of a forward, the size of the set `to` of
+-- its receivers
 unfoldable pub talliedOf : Tally → Kind → ℕ → Tally
-talliedOf t Skip d = t
-talliedOf t Produce d = tally (t .produced + 1) (t .forwards) (t .deliveries)
-talliedOf t Forward d = tally (t .produced) (t .forwards + 1) (t .deliveries + d)
-talliedOf t Subscribe d = t
-talliedOf t Unsubscribe d = t
-talliedOf t Leave d = t
-talliedOf t Join d = t
+talliedOf t Skip to = t
+talliedOf t Produce to = tally (t .produced + 1) (t .forwards) (t .deliveries)
+talliedOf t Forward to = tally (t .produced) (t .forwards + 1) (t .deliveries + size to)
+talliedOf t Subscribe to = t
+talliedOf t Unsubscribe to = t
+talliedOf t Leave to = t
+talliedOf t Join to = t
 
 -- ---- one event
 
@@ -59,7 +61,7 @@ pub record Outcome : Type 0 where
 
 -- there was no event: refused by a number, or the end (0); its kind is that of doing nothing
 abbrev pub refusedBy : ℕ → Turned
-refusedBy number = record { number = number; kind = Skip; deliveries = 0 }
+refusedBy number = record { number = number; kind = Skip; receivers = 0 }
 
 -- what was read is done, or refused by its number, 6 or 7
 unfoldable pub turnOf : Table → Network → Read → Outcome
@@ -68,9 +70,9 @@ turnOf b n End = record { turned = refusedBy (readingOf End .number); network = 
 turnOf b n Unknown = record { turned = refusedBy (readingOf Unknown .number); network = n }
 turnOf b n Unfit = record { turned = refusedBy (readingOf Unfit .number); network = n }
 
--- m and r are what becomes of n, and its answer; no event delivers to more than 32
+-- m and r are what becomes of n, and its answer
 abbrev pub Turn : Table → Network → Read → Network → Turned → Type 0
-Turn b n read m r = (m ≡ turnOf b n read .network) × ((r ≡ turnOf b n read .turned) × (r .deliveries ≤ 32))
+Turn b n read m r = (m ≡ turnOf b n read .network) × (r ≡ turnOf b n read .turned)
 
 -- ---- a run
 
@@ -97,7 +99,7 @@ runFrom zero ev place b n t = allDone place t n
 runFrom (suc k) ev place b n t =
     let o = turnOf b n (readAt ev place) in
     cond (eqb (o .turned .number) 0)
-    (runFrom k ev (place + 1) b (o .network) (talliedOf t (o .turned .kind) (o .turned .deliveries)))
+    (runFrom k ev (place + 1) b (o .network) (talliedOf t (o .turned .kind) (o .turned .receivers)))
     (stopsAt (o .turned .number) place t n)
 
 -- every event of a list, from a network that was read

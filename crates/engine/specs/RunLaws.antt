@@ -12,4 +12,4 @@ abbrev pub outcomeAt : List ℕ → ℕ → Table → Network → Outcome
 outcomeAt ev place b n = turnOf b n (readAt ev place)
 
 abbrev pub tallyAfter : Outcome → Tally → Tally
-tallyAfter o t = talliedOf t (o .turned .kind) (o .turned .deliveries)
+tallyAfter o t = talliedOf t (o .turned .kind) (o .turned .receivers)

@@ -86,15 +86,17 @@ pub extern "C" fn relay_copy(from: &[u8], to: &mut [u8]) -> Checked
     answer(0, 0, 0)
 }
 
-// The answer of a single forward; a refused one delivers nothing.
-fn forwarded(number: u8, place: usize, detail: u8, deliveries: u32) -> Forwarded
-    ensures { λ r. ⌜ r ≡ forwardedBy number place detail deliveries ⌝ }
+// The answer of a single forward; a refused one has no receivers.
+fn forwarded(number: u8, place: usize, detail: u8, receivers: u32) -> Forwarded
+    ensures { λ r. ⌜ r ≡ forwardedBy number place detail receivers ⌝ }
 {
+    let deliveries = sets::size32(receivers);
     Forwarded {
         number,
         detail,
         place,
         deliveries,
+        receivers,
     }
 }
 
@@ -145,11 +147,11 @@ fn forward_saved<'a>(
         &*known,
         &mut *state,
     );
-    forwarded(0, 0, 0, turned.deliveries)
+    forwarded(0, 0, 0, turned.receivers)
 }
 
 // "Called alone on a state, table, peer and message, it refuses by 1, 2, 4," 20 to 26, "7, 8, 13 in this order, place 0 for the last
-// three, buffers untouched"; it answers the number of deliveries.
+// three, buffers untouched"; it answers "the set of peers that newly hold the message" (E2), and its size.
 #[no_mangle]
 pub extern "C" fn relay_forward(state: &mut [u8], table: &[u8], peer: u8, message: u8) -> Forwarded
     ensures { λ r. ⌜ (r ≡ forwardOf (now (state .entry)) (now (table .entry)) peer message .answer) ×

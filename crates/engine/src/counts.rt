@@ -4,10 +4,10 @@ ghost use Rattle.engine.specs.Run.{talliedOf, tally, Room};
 use crate::Tally;
 use events::kind::Kind;
 
-// One accepted event more.
-pub(crate) fn tallied(t: Tally, kind: Kind, deliveries: u32) -> Tally
-    requires { ⌜ Room t deliveries ⌝ }
-    ensures { λ r. ⌜ r ≡ talliedOf t kind deliveries ⌝ }
+// One accepted event more; each receiver of a forward is one delivery.
+pub(crate) fn tallied(t: Tally, kind: Kind, receivers: u32) -> Tally
+    requires { ⌜ Room t ⌝ }
+    ensures { λ r. ⌜ r ≡ talliedOf t kind receivers ⌝ }
 {
     match kind {
         Kind::Produce => Tally {
@@ -18,7 +18,7 @@ pub(crate) fn tallied(t: Tally, kind: Kind, deliveries: u32) -> Tally
         Kind::Forward => Tally {
             produced: t.produced,
             forwards: t.forwards + 1,
-            deliveries: t.deliveries + deliveries as u64,
+            deliveries: t.deliveries + sets::size32(receivers) as u64,
         },
         _ => t,
     }
@@ -30,11 +30,11 @@ pub(crate) fn count_in(
     forwards: &mut u64,
     deliveries: &mut u64,
     kind: Kind,
-    count: u32,
+    receivers: u32,
 )
-    requires { ⌜ Room (tally (now produced) (now forwards) (now deliveries)) count ⌝ }
+    requires { ⌜ Room (tally (now produced) (now forwards) (now deliveries)) ⌝ }
     ensures { λ z. ⌜ tally (now (produced .exit)) (now (forwards .exit)) (now (deliveries .exit)) ≡ talliedOf
-        (tally (now (produced .entry)) (now (forwards .entry)) (now (deliveries .entry))) kind count ⌝ }
+        (tally (now (produced .entry)) (now (forwards .entry)) (now (deliveries .entry))) kind receivers ⌝ }
 {
     let t = tallied(
         Tally {
@@ -43,7 +43,7 @@ pub(crate) fn count_in(
             deliveries: *deliveries,
         },
         kind,
-        count,
+        receivers,
     );
     *produced = t.produced;
     *forwards = t.forwards;

@@ -35,13 +35,14 @@ pub struct Answer {
     pub accepted: usize,
 }
 
-// The answer of a single forward.
+// The answer of a single forward: the peers that newly hold the message (document 02's E2, where C has padding), and their number.
 #[repr(C)]
 pub struct Forwarded {
     pub number: u8,
     pub detail: u8,
     pub place: usize,
     pub deliveries: u32,
+    pub receivers: u32,
 }
 
 // The answer of a drain: a refusal and its place, or the forwards made, the rounds finished and whether nothing is pending.

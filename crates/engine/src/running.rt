@@ -23,7 +23,7 @@ fn refused(number: u8) -> Turned
     Turned {
         number,
         kind: Kind::Skip,
-        deliveries: 0,
+        receivers: 0,
     }
 }
 
@@ -128,7 +128,7 @@ pub(crate) fn run_parts(
             &mut *forwards,
             &mut *deliveries,
             kind,
-            turned.deliveries,
+            turned.receivers,
         );
         place += 1;
     }

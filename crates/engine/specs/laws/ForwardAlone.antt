@@ -16,9 +16,9 @@ use Rattle.events.specs.declared.Event.the-variants.{Forward}
 use Rattle.events.specs.Fits.{EventFits}
 use Rattle.floodnet.specs.declared.Turned.{Turned}
 use Rattle.floodnet.specs.Refusals.{refusalForward}
-use Rattle.floodnet.specs.Forward.{forwarded, deliveries}
+use Rattle.floodnet.specs.Forward.{forwarded, receivers}
 use Rattle.events.specs.declared.kind.Kind.{Kind}
-use Rattle.floodnet.specs.Step.{refusal, effect, ifAccepted, after, deliveriesOf, turned, turnedOf}
+use Rattle.floodnet.specs.Step.{refusal, effect, ifAccepted, after, receiversOf, turned, turnedOf}
 use Rattle.engine.specs.declared.Begun.{Begun}
 use Rattle.engine.specs.declared.Forwarded.{Forwarded}
 use Rattle.engine.specs.Start.{beginOf}
@@ -31,20 +31,20 @@ forwardEvent p m = Forward (peer p) (message m)
 -- ---- the event, as floodnet answers it
 
 -- the number is that of the forward's conditions
-turned-number : (k : ℕ) (kind : Kind) (d : ℕ) → turned k kind d .number ≡ k
+turned-number : (k : ℕ) (kind : Kind) (to : ℕ) → turned k kind to .number ≡ k
 unfolding turned
-turned-number zero kind d = refl
-turned-number (suc k) kind d = refl
+turned-number zero kind to = refl
+turned-number (suc k) kind to = refl
 
 pub forward-number : (n : Network) (b : Table) (p m : ℕ) → turnedOf n b (forwardEvent p m) .number ≡ refusalForward n (peer p) (message m)
 unfolding turnedOf refusal
 forward-number n b p m = turned-number _ _ _
 
--- an accepted forward: its deliveries and its network
-pub forward-deliveries : (n : Network) (b : Table) (p m : ℕ) → refusalForward n (peer p) (message m) ≡ 0
-    → turnedOf n b (forwardEvent p m) .deliveries ≡ deliveries n b (peer p) (message m)
-unfolding turnedOf turned refusal deliveriesOf
-forward-deliveries n b p m z = rw z
+-- an accepted forward: its receivers and its network
+pub forward-receivers : (n : Network) (b : Table) (p m : ℕ) → refusalForward n (peer p) (message m) ≡ 0
+    → turnedOf n b (forwardEvent p m) .receivers ≡ receivers n b (peer p) (message m)
+unfolding turnedOf turned refusal receiversOf
+forward-receivers n b p m z = rw z
 
 pub forward-after : (n : Network) (b : Table) (p m : ℕ) → refusalForward n (peer p) (message m) ≡ 0 → after n b (forwardEvent p m) ≡ forwarded n b (peer p) (message m)
 unfolding after ifAccepted refusal effect
@@ -81,14 +81,14 @@ module _ (s : List ℕ) (n : Network) (b : Table) (p m : ℕ) where
       (k ∙ rw (v, w, ← y, ne-eqb h), rw (v, w, ← y, ne-eqb h))
 
   -- accepted
-  pub forward-done : {r : Forwarded} {x : Turned} {n′ : Network} {to : List ℕ} → r ≡ forwardedBy 0 0 0 (x .deliveries) → p ≤ 31 → m ≤ 63
+  pub forward-done : {r : Forwarded} {x : Turned} {n′ : Network} {to : List ℕ} → r ≡ forwardedBy 0 0 0 (x .receivers) → p ≤ 31 → m ≤ 63
       → x ≡ turnedOf n b (forwardEvent p m) → n′ ≡ after n b (forwardEvent p m) → x .number ≡ 0 → to ≡ bytesOf n′ → Gives r to (forwardOn s n b p m)
   unfolding forwardOn
   forward-done {r} {x} {n′} {to} k l j q a h c =
       let v : ltb p 32 ≡ true = lt-ltb p 32 (omega arith) in
       let w : ltb m 64 ≡ true = lt-ltb m 64 (omega arith) in
       let y : refusalForward n (peer p) (message m) ≡ 0 = sym (forward-number n b p m) ∙ (sym (ap (λ (u : Turned). u .number) q) ∙ h) in
-      let d : x .deliveries ≡ deliveries n b (peer p) (message m) = ap (λ (u : Turned). u .deliveries) q ∙ forward-deliveries n b p m y in
+      let d : x .receivers ≡ receivers n b (peer p) (message m) = ap (λ (u : Turned). u .receivers) q ∙ forward-receivers n b p m y in
       (k ∙ rw (v, w, y, d), rw (v, w, y) (c ∙ ap bytesOf (a ∙ forward-after n b p m y)))
 
 module _ (s t : List ℕ) (p m : ℕ) {g : Begun} (e : g ≡ beginOf s t 0) where

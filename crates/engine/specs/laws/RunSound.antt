@@ -6,7 +6,8 @@ use mathlib.Core.Logic.{_⊎_, inl, inr}
 use mathlib.Core.List.{List}
 use Prim.Native.Nat.{ℕ, zero, suc, _+_, _-_}
 use native.Mathlib.Omega.{arith}
-use Rattle.sets.specs.Set.{digit}
+use Rattle.sets.specs.Set.{digit, size}
+use Rattle.sets.specs.laws.Sizes.{size-none}
 use Rattle.endian.specs.laws.Le.{Bytes}
 use Rattle.network.specs.declared.Network.{Network}
 use Rattle.network.specs.declared.Table.{Table}
@@ -20,7 +21,7 @@ use Rattle.events.specs.Event.{readAt}
 use Rattle.events.specs.declared.kind.Kind.{Kind}
 use Rattle.events.specs.Kind.{kindOf, codeOf, alike}
 use Rattle.events.specs.laws.RoundTrip.{read-fits}
-use Rattle.floodnet.specs.Step.{refusal, effect, ifAccepted, after, deliveriesOf, turned, turnedOf}
+use Rattle.floodnet.specs.Step.{refusal, effect, ifAccepted, after, receiversOf, turned, turnedOf}
 use Rattle.floodnet.specs.laws.StepLaws.{after-sound, effect-pairs}
 use Rattle.floodnet.specs.View.{pairs}
 use Rattle.floodnet.specs.declared.Turned.{Turned}
@@ -52,42 +53,42 @@ turn-sound s rows Unfit f = s
 -- pairs after an accepted event, by what the tally counts of it
 turn-pairs : {b : Table} {n : Network} → Sound n → Rows b → (r : Read) → ReadFits r → turnOf b n r .turned .number ≡ 0
     → pairs (turnOf b n r .network) + digit (alike (turnOf b n r .turned .kind) Kind.Forward)
-    ≡ pairs n + (digit (alike (turnOf b n r .turned .kind) Kind.Produce) + turnOf b n r .turned .deliveries)
+    ≡ pairs n + (digit (alike (turnOf b n r .turned .kind) Kind.Produce) + size (turnOf b n r .turned .receivers))
 unfolding turnOf ReadFits turnedOf turned after ifAccepted codeOf alike
 turn-pairs {b} {n} s rows (Taken e) f h = first (refusal n b e) refl h
   where
     answer : ℕ → Turned
-    answer k = turned k (kindOf e) (deliveriesOf n b e)
+    answer k = turned k (kindOf e) (receiversOf n b e)
 
     first : (k : ℕ) → refusal n b e ≡ k → answer k .number ≡ 0
-        → pairs (ifAccepted k (effect n b e) n) + digit (alike (answer k .kind) Kind.Forward) ≡ pairs n + (digit (alike (answer k .kind) Kind.Produce) + answer k .deliveries)
+        → pairs (ifAccepted k (effect n b e) n) + digit (alike (answer k .kind) Kind.Forward) ≡ pairs n + (digit (alike (answer k .kind) Kind.Produce) + size (answer k .receivers))
     first zero z i = effect-pairs s rows e f z
     first (suc k) z i = absurd (omega arith)
-turn-pairs s rows End f h = refl
-turn-pairs s rows Unknown f h = refl
-turn-pairs s rows Unfit f h = refl
+turn-pairs s rows End f h = rw size-none
+turn-pairs s rows Unknown f h = rw size-none
+turn-pairs s rows Unfit f h = rw size-none
 
--- an event that is no forward delivers nothing
-event-delivers : (n : Network) (b : Table) (e : Event) → (kindOf e ≡ Kind.Forward) ⊎ (deliveriesOf n b e ≡ 0)
-unfolding kindOf deliveriesOf
-event-delivers n b Skip = inr refl
-event-delivers n b (Produce p m) = inr refl
-event-delivers n b (Forward p m) = inl refl
-event-delivers n b (Subscribe p topics) = inr refl
-event-delivers n b (Unsubscribe p topics) = inr refl
-event-delivers n b (Leave p) = inr refl
-event-delivers n b (Join p j) = inr refl
+-- an event that is no forward has no receivers
+event-receivers : (n : Network) (b : Table) (e : Event) → (kindOf e ≡ Kind.Forward) ⊎ (receiversOf n b e ≡ 0)
+unfolding kindOf receiversOf
+event-receivers n b Skip = inr refl
+event-receivers n b (Produce p m) = inr refl
+event-receivers n b (Forward p m) = inl refl
+event-receivers n b (Subscribe p topics) = inr refl
+event-receivers n b (Unsubscribe p topics) = inr refl
+event-receivers n b (Leave p) = inr refl
+event-receivers n b (Join p j) = inr refl
 
-pub turn-delivers : (b : Table) (n : Network) (r : Read) → (turnOf b n r .turned .kind ≡ Kind.Forward) ⊎ (turnOf b n r .turned .deliveries ≡ 0)
+pub turn-receivers : (b : Table) (n : Network) (r : Read) → (turnOf b n r .turned .kind ≡ Kind.Forward) ⊎ (turnOf b n r .turned .receivers ≡ 0)
 unfolding turnOf turnedOf turned
-turn-delivers b n (Taken e) = first (refusal n b e)
+turn-receivers b n (Taken e) = first (refusal n b e)
   where
-    first : (k : ℕ) → (turned k (kindOf e) (deliveriesOf n b e) .kind ≡ Kind.Forward) ⊎ (turned k (kindOf e) (deliveriesOf n b e) .deliveries ≡ 0)
-    first zero = event-delivers n b e
+    first : (k : ℕ) → (turned k (kindOf e) (receiversOf n b e) .kind ≡ Kind.Forward) ⊎ (turned k (kindOf e) (receiversOf n b e) .receivers ≡ 0)
+    first zero = event-receivers n b e
     first (suc k) = inr refl
-turn-delivers b n End = inr refl
-turn-delivers b n Unknown = inr refl
-turn-delivers b n Unfit = inr refl
+turn-receivers b n End = inr refl
+turn-receivers b n Unknown = inr refl
+turn-receivers b n Unfit = inr refl
 
 -- ---- a run
 
@@ -108,17 +109,17 @@ module _ (ev : List ℕ) (h : Bytes ev) (b : Table) (rows : Rows b) where
               arith,
               ih .balance (next s),
               turn-pairs s rows (readAt ev place) (reads-fit ev h place) e,
-              tallied-produced t kind d,
-              tallied-forwards t kind d,
-              tallied-deliveries t kind d (turn-delivers b n (readAt ev place)),
+              tallied-produced t kind to,
+              tallied-forwards t kind to,
+              tallied-deliveries t kind to (turn-receivers b n (readAt ev place)),
             );
       }
     where
       kind : Kind
       kind = outcomeAt ev place b n .turned .kind
 
-      d : ℕ
-      d = outcomeAt ev place b n .turned .deliveries
+      to : ℕ
+      to = outcomeAt ev place b n .turned .receivers
 
       next : Sound n → Sound (outcomeAt ev place b n .network)
       next s = turn-sound s rows (readAt ev place) (reads-fit ev h place)

@@ -45,6 +45,10 @@ turned c = accepted c .before
 small : (h : tie.At-loop Inv-loop μ-loop) → 32 * (length (start h .args .events .now) / 16) < 2 ^ 64
 small h = omega (arith, start h .good .1 .1 .1 .1 .1 .1 .1 .1 .1 .0 .1)
 
+-- the receivers that a turn answers are a word of 32 bits
+word : (u : tie.After-turn Inv-loop μ-loop) → u .turn .result .receivers < 2 ^ 32
+word u = u .turn .ok .1 .1 .1 .1 .0 .1
+
 loop-holds : tie.Need-loop-holds Inv-loop μ-loop
 loop-holds c = λ n. going-start _ _ _ _
 
@@ -69,7 +73,7 @@ count-in-requires : tie.Need-count-in-requires Inv-loop μ-loop
 count-in-requires c κs =
     let u = turned c in
     let e = u .before in
-    going-room _ _ _ (head e .loop .inv bare) (inside e .loop-test .taken) (small (head e)) _ (u .turn .ensures bare .1 .1)
+    going-room _ _ _ (head e .loop .inv bare) (inside e .loop-test .taken) (small (head e))
 
 add-place : tie.Need-add-place Inv-loop μ-loop
 add-place c =
@@ -83,7 +87,7 @@ loop-again : tie.Need-loop-again Inv-loop μ-loop
 loop-again c =
     let u = turned (c .before) in
     let e = u .before in
-    λ n. ran-on _ _ _ (head e .loop .inv n) (inside e .loop-test .taken) (read-is _ _ _ (e .event-at .ensures)) _ _ (u .turn .ensures n) (accepted (c .before) .if1 .left) _ (c .count-in .ensures)
+    λ n. ran-on _ _ _ (head e .loop .inv n) (inside e .loop-test .taken) (read-is _ _ _ (e .event-at .ensures)) _ _ (u .turn .ensures n) (accepted (c .before) .if1 .left) (word u) _ (c .count-in .ensures)
 
 answer-requires-2 : tie.Need-answer-requires-2 Inv-loop μ-loop
 answer-requires-2 c κs = search needs

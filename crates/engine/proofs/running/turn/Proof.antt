@@ -43,7 +43,7 @@ refused-requires : tie.Need-refused-requires
 refused-requires c κs = search needs
 
 returns : tie.Need-returns
-returns c = let s = c .step .ensures in λ n. turn-taken _ _ _ _ (read (c .before) .read .given .1) (s .0 n, (s .1 .0 n, s .1 .1))
+returns c = let s = c .step .ensures in λ n. turn-taken _ _ _ _ (read (c .before) .read .given .1) (s .0 n, s .1 n)
 
 returns-2 : tie.Need-returns-2
 returns-2 c =

@@ -15,11 +15,14 @@ pub(crate) fn tallied(t: Tally, kind: Kind, receivers: u32) -> Tally
             forwards: t.forwards,
             deliveries: t.deliveries,
         },
-        Kind::Forward => Tally {
-            produced: t.produced,
-            forwards: t.forwards + 1,
-            deliveries: t.deliveries + sets::size32(receivers) as u64,
-        },
+        Kind::Forward => {
+            let count = sets::size32(receivers);
+            Tally {
+                produced: t.produced,
+                forwards: t.forwards + 1,
+                deliveries: t.deliveries + count as u64,
+            }
+        }
         _ => t,
     }
 }

@@ -46,7 +46,7 @@ pub fn forward(
     let k = network::spot(p, network::topic_of(topics, m));
     let near = known[k];
     let held = arrays::holders(pending, seen, near, m);
-    let r = sets::minus32(near, held);
-    arrays::give(pending, r, m);
-    r
+    let receivers = sets::minus32(near, held);
+    arrays::give(pending, receivers, m);
+    receivers
 }

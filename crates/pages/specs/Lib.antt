@@ -3,6 +3,7 @@ pub mod StartPage
 pub mod RunReached
 pub mod RunPage
 pub mod UntouchedPage
+pub mod ReceiversPage
 pub mod ImagePage
 pub mod ReachPage
 pub mod FromBlank

@@ -7,7 +7,7 @@ use mathlib.Core.Logic.{_↔_}
 use mathlib.Core.List.{List}
 use Prim.Native.Nat.{ℕ, suc, _+_, _*_, _/_, _≤_, _<_}
 use lib.ListN.{length, take}
-use Rattle.sets.specs.Set.{count}
+use Rattle.sets.specs.Set.{count, size}
 use Rattle.sets.specs.Sums.{sum}
 use Rattle.network.specs.declared.Network.{Network}
 use Rattle.network.specs.declared.Table.{Table}
@@ -19,7 +19,7 @@ use Rattle.events.specs.declared.Read.the-variants.{Taken, Unknown, Unfit}
 use Rattle.events.specs.declared.kind.Kind.{Kind}
 use Rattle.events.specs.Event.{readAt}
 use Rattle.events.specs.Kind.{alike}
-use Rattle.floodnet.specs.Step.{refusal, effect, deliveriesOf}
+use Rattle.floodnet.specs.Step.{refusal, effect, receiversOf}
 use Rattle.transitions.specs.Page.{FloodnetPage}
 use Rattle.floodnet.specs.View.{pairs}
 use Rattle.engine.specs.declared.Tally.{Tally}
@@ -51,7 +51,7 @@ pub record RunRefused (s t ev : List ℕ) (old : Tally) (r : Answer) (s′ : Lis
   pub tally : new ≡ old
 
 -- Past them. `reached ev b n i` is the network that the record at place i meets, from the network n that was read and with the table b;
--- `turnAt ev b n i` is what becomes of that record there: its number, 0 if it is accepted, and its deliveries.
+-- `turnAt ev b n i` is what becomes of that record there: its number, 0 if it is accepted, and its receivers.
 pub record RunDone (s t ev : List ℕ) (old : Tally) (r : Answer) (s′ : List ℕ) (new : Tally) : Type 0 where
   -- the state written is accepted by every later reading, and holds a sound network
   pub reads : openOf s′ ≡ opened 0 0 0 (netIn s′)
@@ -69,10 +69,10 @@ pub record RunDone (s t ev : List ℕ) (old : Tally) (r : Answer) (s′ : List �
       → (r .place ≡ r .accepted) × (r .accepted < length ev / 16) × (r .number ≡ turnAt ev (tableIn t) (netIn s) (r .place) .number)
   -- "the state is that after the events before it": these, run alone on the same bytes, are all accepted, with the same state and tally
   pub before : runOf s t (take (16 * r .accepted) ev) old ≡ record { answer = answered 0 0 0 (r .accepted); tally = new; state = s′ }
-  -- the tally is of the accepted events alone: how many are produces, how many forwards, and the sum of the deliveries
+  -- the tally is of the accepted events alone: how many are produces, how many forwards, and how many received one, over all forwards
   pub produced : new .produced ≡ count (r .accepted) (λ i. alike (kindAt ev i) Kind.Produce)
   pub forwards : new .forwards ≡ count (r .accepted) (λ i. alike (kindAt ev i) Kind.Forward)
-  pub deliveries : new .deliveries ≡ sum (r .accepted) (λ i. turnAt ev (tableIn t) (netIn s) i .deliveries)
+  pub deliveries : new .deliveries ≡ sum (r .accepted) (λ i. size (turnAt ev (tableIn t) (netIn s) i .receivers))
   -- "Pending pairs at the end = pending pairs at the start + produced + deliveries - forwards"
   pub balance : pairs (netIn s′) + new .forwards ≡ pairs (netIn s) + (new .produced + new .deliveries)
 
@@ -83,8 +83,8 @@ pub record TurnPage (ev : List ℕ) (b : Table) (n : Network) (i : ℕ) (m : Net
   pub unfit : readAt ev i ≡ Unfit → turnAt ev b n i .number ≡ 7
   -- an event is refused by the number of the first of its conditions that fails, 0 if none does (specs/Page.antt of the crate transitions)
   pub event : (e : Event) → readAt ev i ≡ Taken e → turnAt ev b n i .number ≡ refusal m b e
-  -- an accepted event does what its kind does, and makes as many deliveries as that
-  pub does : (e : Event) → readAt ev i ≡ Taken e → refusal m b e ≡ 0 → (reached ev b n (suc i) ≡ effect m b e) × (turnAt ev b n i .deliveries ≡ deliveriesOf m b e)
+  -- an accepted event does what its kind does, and its receivers are those of its kind (of a forward, specs/Receivers.antt of transitions)
+  pub does : (e : Event) → readAt ev i ≡ Taken e → refusal m b e ≡ 0 → (reached ev b n (suc i) ≡ effect m b e) × (turnAt ev b n i .receivers ≡ receiversOf m b e)
 
 -- b, n: the table and the network that were read; every network on the way is sound, and one of which floodnet's page speaks
 pub record AlongPage (ev : List ℕ) (b : Table) (n : Network) : Type 0 where

@@ -11,6 +11,6 @@ unfoldable pub reached : List ℕ → Table → Network → ℕ → Network
 reached ev b n zero = n
 reached ev b n (suc i) = outcomeAt ev i b (reached ev b n i) .network
 
--- what becomes of the record at place i: the number by which it is refused (0 if it is not), and its deliveries
+-- what becomes of the record at place i: the number by which it is refused (0 if it is not), and its receivers
 abbrev pub turnAt : List ℕ → Table → Network → ℕ → Turned
 turnAt ev b n i = outcomeAt ev i b (reached ev b n i) .turned

@@ -6,7 +6,6 @@ use mathlib.Core.Path.{_≡_}
 use mathlib.Core.Logic.{_⊎_}
 use mathlib.Core.List.{List}
 use Prim.Native.Nat.{ℕ}
-use Rattle.floodnet.specs.Forward.{deliveries}
 use Rattle.engine.specs.Start.{beginOf}
 use Rattle.network.specs.Rules.{checked}
 use Rattle.engine.specs.Alone.{forwardedBy, forwardOf, checkOf, copyOf, copiedOf}
@@ -20,11 +19,12 @@ pub record UntouchedPage (s t : List ℕ) : Type 0 where
   pub drain : (budget : ℕ) → (beginOf s t 0 .number ≡ 0 → ⊥)
       → (drainEndOf s t budget .answer ≡ refusedDrain (beginOf s t 0 .number) (beginOf s t 0 .place) (beginOf s t 0 .detail)) × (drainEndOf s t budget .state ≡ s)
   pub drain-accepts : (budget : ℕ) → beginOf s t 0 .number ≡ 0 → (drainEndOf s t budget .answer .number ≡ 0) × (drainEndOf s t budget .answer .detail ≡ 0)
-  -- `relay_forward`: the same refusals come first; past them the place and the detail are 0; whatever refuses it, no delivery is reported and the
-  -- state is as it was
+  -- `relay_forward`: the same refusals come first; past them the place and the detail are 0; whatever refuses it, nobody is reported to receive
+  -- it, no delivery is counted, and the state is as it was
   pub forward-first : (p m : ℕ) → (beginOf s t 0 .number ≡ 0 → ⊥) → forwardOf s t p m .answer ≡ forwardedBy (beginOf s t 0 .number) (beginOf s t 0 .place) (beginOf s t 0 .detail) 0
   pub forward-then : (p m : ℕ) → beginOf s t 0 .number ≡ 0 → (forwardOf s t p m .answer .place ≡ 0) × (forwardOf s t p m .answer .detail ≡ 0)
-  pub forward : (p m : ℕ) → (forwardOf s t p m .answer .number ≡ 0 → ⊥) → (forwardOf s t p m .answer .deliveries ≡ 0) × (forwardOf s t p m .state ≡ s)
+  pub forward : (p m : ℕ) → (forwardOf s t p m .answer .number ≡ 0 → ⊥)
+      → (forwardOf s t p m .answer .receivers ≡ 0) × (forwardOf s t p m .answer .deliveries ≡ 0) × (forwardOf s t p m .state ≡ s)
   -- `relay_image`: a state is refused as `relay_check` refuses it; past that 18 is the only refusal; the second buffer is as it was
   pub image-first : (buffer : List ℕ) → (checkOf s .number ≡ 0 → ⊥) → imageAnswerOf s buffer ≡ checkOf s
   pub image-then : (buffer : List ℕ) → checkOf s .number ≡ 0 → (imageAnswerOf s buffer ≡ checked 0 0 0) ⊎ (imageAnswerOf s buffer ≡ checked 18 0 0)

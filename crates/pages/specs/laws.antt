@@ -6,6 +6,7 @@ pub mod ForwardRun
 pub mod FromBlank
 pub mod ImagePageLaws
 pub mod ReachPageLaws
+pub mod ReceiversPageLaws
 pub mod RunBefore
 pub mod RunImages
 pub mod RunPageLaws

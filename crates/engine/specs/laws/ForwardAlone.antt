@@ -2,7 +2,7 @@
 use mathlib.Core.Path.{_≡_, refl, sym, ap, _∙_}
 use mathlib.Core.Bool.{true, false}
 use mathlib.Core.List.{List}
-use Prim.Native.Nat.{ℕ, zero, suc, _≤_, _<_}
+use Prim.Native.Nat.{ℕ, _≤_, _<_}
 use native.Mathlib.Omega.{arith}
 use lib.Dec.{ltb}
 use borrow.Author.Tests.{lt-ltb, le-ltb}
@@ -17,8 +17,8 @@ use Rattle.events.specs.Fits.{EventFits}
 use Rattle.floodnet.specs.declared.Turned.{Turned}
 use Rattle.floodnet.specs.Refusals.{refusalForward}
 use Rattle.floodnet.specs.Forward.{forwarded, receivers}
-use Rattle.events.specs.declared.kind.Kind.{Kind}
 use Rattle.floodnet.specs.Step.{refusal, effect, ifAccepted, after, receiversOf, turned, turnedOf}
+use Rattle.floodnet.specs.laws.StepLaws.{turned-number}
 use Rattle.engine.specs.declared.Begun.{Begun}
 use Rattle.engine.specs.declared.Forwarded.{Forwarded}
 use Rattle.engine.specs.Start.{beginOf}
@@ -31,11 +31,6 @@ forwardEvent p m = Forward (peer p) (message m)
 -- ---- the event, as floodnet answers it
 
 -- the number is that of the forward's conditions
-turned-number : (k : ℕ) (kind : Kind) (to : ℕ) → turned k kind to .number ≡ k
-unfolding turned
-turned-number zero kind to = refl
-turned-number (suc k) kind to = refl
-
 pub forward-number : (n : Network) (b : Table) (p m : ℕ) → turnedOf n b (forwardEvent p m) .number ≡ refusalForward n (peer p) (message m)
 unfolding turnedOf refusal
 forward-number n b p m = turned-number _ _ _

@@ -16,7 +16,8 @@ use Rattle.events.specs.Event.{readAt}
 use Rattle.events.specs.declared.kind.Kind.{Kind}
 use Rattle.events.specs.declared.kind.Kind.the-variants.{Skip, Produce, Forward, Subscribe, Unsubscribe, Leave, Join}
 use Rattle.events.specs.Kind.{kindOf, codeOf, alike}
-use Rattle.floodnet.specs.Step.{refusal, receiversOf, turned, turnedOf}
+use Rattle.floodnet.specs.Step.{refusal, receiversOf, turnedOf}
+use Rattle.floodnet.specs.laws.StepLaws.{turned-kind}
 use Rattle.engine.specs.declared.Tally.{Tally}
 use Rattle.engine.specs.Run.{tally, talliedOf, turnOf, Final, runFrom}
 use Rattle.engine.specs.RunLaws.{outcomeAt, tallyAfter}
@@ -29,12 +30,8 @@ kinds ev kind place count-of = count count-of (λ i. alike (kindAt ev (place + i
 
 -- the answer says the kind of the event, refused or not
 turn-kind : (b : Table) (n : Network) (r : Read) → turnOf b n r .turned .kind ≡ kindIn r
-unfolding turnOf kindIn turnedOf turned
-turn-kind b n (Taken e) = first (refusal n b e)
-  where
-    first : (k : ℕ) → turned k (kindOf e) (receiversOf n b e) .kind ≡ kindOf e
-    first zero = refl
-    first (suc k) = refl
+unfolding turnOf kindIn turnedOf
+turn-kind b n (Taken e) = turned-kind (refusal n b e) (kindOf e) (receiversOf n b e)
 turn-kind b n End = refl
 turn-kind b n Unknown = refl
 turn-kind b n Unfit = refl

@@ -27,7 +27,7 @@ use Rattle.floodnet.specs.Produce.{isNew}
 use Rattle.floodnet.specs.Links.{left, linkDown, cleared}
 use Rattle.floodnet.specs.Topics.{subscribedTo, unsubscribedFrom}
 use Rattle.floodnet.specs.Refusals.{refusalProduce, refusalForward, refusalTopics, refusalLeave, refusalJoin}
-use Rattle.floodnet.specs.Step.{refusal, effect, ifAccepted, after, receiversOf}
+use Rattle.floodnet.specs.Step.{refusal, effect, ifAccepted, after, receiversOf, turned}
 use Rattle.floodnet.specs.laws.ProduceLaws.{produced-sound, new-why}
 use Rattle.floodnet.specs.laws.ForwardLaws.{forwarded-sound}
 use Rattle.floodnet.specs.laws.TopicsLaws.{subscribed-sound, unsubscribed-sound}
@@ -92,6 +92,18 @@ after-sound {n} {b} s r e f = first (refusal n b e) refl
     first : (k : ℕ) → refusal n b e ≡ k → Sound (ifAccepted k (effect n b e) n)
     first zero h = effect-sound s r e f h
     first (suc k) h = s
+
+-- ---- the answer: its number is the refusal's, and its kind the event's, refused or not
+
+pub turned-number : (k : ℕ) (kind : Kind) (to : ℕ) → turned k kind to .number ≡ k
+unfolding turned
+turned-number zero kind to = refl
+turned-number (suc k) kind to = refl
+
+pub turned-kind : (k : ℕ) (kind : Kind) (to : ℕ) → turned k kind to .kind ≡ kind
+unfolding turned
+turned-kind zero kind to = refl
+turned-kind (suc k) kind to = refl
 
 -- ---- pairs pending: one more for a produce; one less, and one for each receiver, for a forward; else as before
 

@@ -1,5 +1,5 @@
--- The single forward is the run of one event: where it is accepted, the state and the deliveries are those of a run over the event's
--- one record. Assumes nothing.
+-- The single forward is the run of one event: where it is accepted, the state, the receivers and their number are those of a run over the
+-- event's one record. Assumes nothing.
 use mathlib.Core.Path.{_≡_, refl, sym, ap, _∙_}
 use mathlib.Core.Bool.{Bool, true, false, cond, _&&_}
 use mathlib.Core.List.{List}
@@ -17,19 +17,21 @@ use Rattle.events.specs.Writing.{recordOf}
 use Rattle.events.specs.Fits.{EventFits}
 use Rattle.events.specs.laws.RoundTrip.{record-length, read-record}
 use Rattle.floodnet.specs.Refusals.{refusalForward}
-use Rattle.floodnet.specs.Forward.{forwarded, deliveries}
+use Rattle.floodnet.specs.Forward.{forwarded, receivers}
 use Rattle.events.specs.Kind.{kindOf}
-use Rattle.floodnet.specs.Step.{refusal, effect, ifAccepted, after, deliveriesOf, turned, turnedOf}
+use Rattle.floodnet.specs.Step.{refusal, effect, ifAccepted, after, receiversOf, turned, turnedOf}
 use Rattle.engine.specs.declared.Tally.{Tally}
 use Rattle.engine.specs.declared.Begun.{Begun}
 use Rattle.engine.specs.Start.{beginOf}
 use Rattle.engine.specs.Run.{zeroTally, talliedOf, turnOf, Final, allDone, runFrom, runAll, written, Ending, runOf}
 use Rattle.engine.specs.Alone.{forwardedBy, Forwards, noForward, forwardOn, forwardOf}
-use Rattle.engine.specs.laws.ForwardAlone.{forwardEvent, forward-fits}
+use Rattle.engine.specs.declared.Forwarded.{Forwarded}
+use Rattle.engine.specs.laws.ForwardAlone.{forwardEvent, forward-fits, forward-receivers}
+use Rattle.pages.specs.RunReached.{reached, turnAt}
 
 -- an accepted event, alone in its list
 pub run-one : (b : Table) (n : Network) (e : Event) → EventFits e → refusal n b e ≡ 0
-    → runAll (recordOf e) b n ≡ allDone 1 (talliedOf zeroTally (kindOf e) (deliveriesOf n b e)) (effect n b e)
+    → runAll (recordOf e) b n ≡ allDone 1 (talliedOf zeroTally (kindOf e) (receiversOf n b e)) (effect n b e)
 unfolding runAll runFrom turnOf turnedOf turned after ifAccepted
 run-one b n e f z = rw (record-length e, read-record e f, z)
 
@@ -39,7 +41,7 @@ pub record Passed (s t : List ℕ) (p m : ℕ) : Type 0 where
   pub small-peer : p < 32
   pub small-message : m < 64
   pub right : refusalForward (beginOf s t 0 .network) (peer p) (message m) ≡ 0
-  pub counts : forwardOf s t p m .answer .deliveries ≡ deliveries (beginOf s t 0 .network) (beginOf s t 0 .table) (peer p) (message m)
+  pub answer : forwardOf s t p m .answer ≡ forwardedBy 0 0 0 (receivers (beginOf s t 0 .network) (beginOf s t 0 .table) (peer p) (message m))
   pub state : forwardOf s t p m .state ≡ bytesOf (forwarded (beginOf s t 0 .network) (beginOf s t 0 .table) (peer p) (message m))
 
 pub forward-passed : (s t : List ℕ) (p m : ℕ) → forwardOf s t p m .answer .number ≡ 0 → Passed s t p m
@@ -54,7 +56,7 @@ forward-passed s t p m = go (eqb (g .number) 0) (ltb p 32 && ltb m 64) (eqb k 0)
 
     done : Forwards
     done = record {
-      answer = forwardedBy 0 0 0 (deliveries (g .network) (g .table) (peer p) (message m));
+      answer = forwardedBy 0 0 0 (receivers (g .network) (g .table) (peer p) (message m));
       state = bytesOf (forwarded (g .network) (g .table) (peer p) (message m));
     }
 
@@ -67,7 +69,7 @@ forward-passed s t p m = go (eqb (g .number) 0) (ltb p 32 && ltb m 64) (eqb k 0)
           small-peer = ltb-true _ _ (r .0);
           small-message = ltb-true _ _ (r .1);
           right = eqb-true _ _ ez;
-          counts = rw (ex, ey, ez);
+          answer = rw (ex, ey, ez);
           state = rw (ex, ey, ez);
         }
     go true true false ex ey ez h = clash (eq-eqb _ _ h) ez
@@ -89,16 +91,24 @@ one-runs : (s t : List ℕ) (e : Event) (old : Tally) → beginOf s t 0 .number 
 unfolding runOf
 one-runs s t e old z = rw (record-length e, one-begins s t, z)
 
--- THE SINGLE FORWARD IS THE RUN OF ITS ONE EVENT: the same state, and its deliveries are those of the tally.
+-- its one event has the receivers of the forward
+one-receives : (b : Table) (n : Network) (p m : ℕ) → EventFits (forwardEvent p m) → refusalForward n (peer p) (message m) ≡ 0
+    → turnAt (recordOf (forwardEvent p m)) b n 0 .receivers ≡ receivers n b (peer p) (message m)
+unfolding reached turnOf
+one-receives b n p m f z = rw (read-record (forwardEvent p m) f) (forward-receivers n b p m z)
+
+-- THE SINGLE FORWARD IS THE RUN OF ITS ONE EVENT: the same state, its receivers are those of the event, and their number is the tally's.
 pub forward-is-run : (s t : List ℕ) (p m : ℕ) (old : Tally) → forwardOf s t p m .answer .number ≡ 0
     → (forwardOf s t p m .state ≡ runOf s t (recordOf (forwardEvent p m)) old .state)
+    × (forwardOf s t p m .answer .receivers ≡ turnAt (recordOf (forwardEvent p m)) (beginOf s t 0 .table) (beginOf s t 0 .network) 0 .receivers)
     × (forwardOf s t p m .answer .deliveries ≡ runOf s t (recordOf (forwardEvent p m)) old .tally .deliveries)
-unfolding refusal effect kindOf deliveriesOf talliedOf
+unfolding refusal effect kindOf receiversOf talliedOf
 forward-is-run s t p m old h =
     let a = forward-passed s t p m h in
     let fits : EventFits (forwardEvent p m) = forward-fits p m (omega (arith, a .small-peer)) (omega (arith, a .small-message)) in
     let one = run-one (beginOf s t 0 .table) (beginOf s t 0 .network) (forwardEvent p m) fits (a .right) in
     let w : runOf s t (recordOf (forwardEvent p m)) old ≡ written (runAll (recordOf (forwardEvent p m)) (beginOf s t 0 .table) (beginOf s t 0 .network)) = one-runs s t (forwardEvent p m) old (a .begun) in (
       a .state ∙ sym (ap (λ (x : Ending). x .state) w ∙ ap (λ (x : Final). bytesOf (x .network)) one),
-      a .counts ∙ from-zero _ ∙ sym (ap (λ (x : Ending). x .tally .deliveries) w ∙ ap (λ (x : Final). x .tally .deliveries) one),
+      ap (λ (x : Forwarded). x .receivers) (a .answer) ∙ sym (one-receives (beginOf s t 0 .table) (beginOf s t 0 .network) p m fits (a .right)),
+      ap (λ (x : Forwarded). x .deliveries) (a .answer) ∙ from-zero _ ∙ sym (ap (λ (x : Ending). x .tally .deliveries) w ∙ ap (λ (x : Final). x .tally .deliveries) one),
     )

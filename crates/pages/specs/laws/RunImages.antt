@@ -19,7 +19,7 @@ use Rattle.events.specs.declared.Read.{Read}
 use Rattle.events.specs.declared.Read.the-variants.{Taken, End, Unknown, Unfit}
 use Rattle.events.specs.Event.{readAt}
 use Rattle.events.specs.Kind.{kindOf}
-use Rattle.floodnet.specs.Step.{refusal, effect, ifAccepted, after, deliveriesOf, turned, turnedOf}
+use Rattle.floodnet.specs.Step.{refusal, effect, ifAccepted, after, receiversOf, turned, turnedOf}
 use Rattle.broadcastnet.specs.Commit.{image}
 use Rattle.broadcastnet.specs.Page.{Accepted, effects, images, Path}
 use Rattle.broadcastnet.specs.laws.Refines.{images-follow}
@@ -47,7 +47,7 @@ one-more : (b : Table) (n : Network) (r : Read) → ReadFits r → turnOf b n r 
 unfolding before ReadFits turnOf turnedOf turned after ifAccepted Accepted effects
 one-more b n (Taken e) f h l m x = first (refusal n b e) refl h x
   where
-    first : (k : ℕ) → refusal n b e ≡ k → turned k (kindOf e) (deliveriesOf n b e) .number ≡ 0
+    first : (k : ℕ) → refusal n b e ≡ k → turned k (kindOf e) (receiversOf n b e) .number ≡ 0
         → Accepted (ifAccepted k (effect n b e) n) b l × (effects (ifAccepted k (effect n b e) n) b l ≡ m) → Accepted n b (e ∷ l) × (effects n b (e ∷ l) ≡ m)
     first zero z i y = ((f, z, y .0), y .1)
     first (suc k) z i y = absurd (omega arith)

@@ -26,7 +26,8 @@ use Rattle.events.specs.declared.Read.the-variants.{Taken}
 use Rattle.events.specs.declared.kind.Kind.{Kind}
 use Rattle.events.specs.Event.{readingOf}
 use Rattle.events.specs.Kind.{kindOf, alike}
-use Rattle.floodnet.specs.Step.{refusal, effect, ifAccepted, after, deliveriesOf, turned, turnedOf}
+use Rattle.floodnet.specs.laws.StepLaws.{turned-number}
+use Rattle.floodnet.specs.Step.{refusal, effect, ifAccepted, after, receiversOf, turned, turnedOf}
 use Rattle.transitions.specs.laws.PageLaws.{floodnet-page}
 use Rattle.engine.specs.declared.Tally.{Tally}
 use Rattle.engine.specs.declared.Answer.{Answer}
@@ -44,13 +45,8 @@ use Rattle.pages.specs.laws.RunReached.{Along, run-along, reached-sound}
 use Rattle.pages.specs.RunPage.{netIn, tableIn, RunRefused, RunDone, TurnPage, AlongPage, RunPage}
 
 -- the record at a place
-turned-number : (k : ℕ) (kind : Kind) (d : ℕ) → turned k kind d .number ≡ k
-unfolding turned
-turned-number zero kind d = refl
-turned-number (suc k) kind d = refl
-
 done-accepted : (b : Table) (m : Network) (e : Event) → refusal m b e ≡ 0
-    → (turnOf b m (Taken e) .network ≡ effect m b e) × (turnOf b m (Taken e) .turned .deliveries ≡ deliveriesOf m b e)
+    → (turnOf b m (Taken e) .network ≡ effect m b e) × (turnOf b m (Taken e) .turned .receivers ≡ receiversOf m b e)
 unfolding turnOf turnedOf turned after ifAccepted
 done-accepted b m e h = (rw h, rw h)
 
@@ -61,9 +57,9 @@ page-turn ev b n i =
     record {
       unknown = λ z. ap (λ (r : Read). turnOf b m r .turned .number) z;
       unfit = λ z. ap (λ (r : Read). turnOf b m r .turned .number) z;
-      event = λ e z. ap (λ (r : Read). turnOf b m r .turned .number) z ∙ turned-number (refusal m b e) (kindOf e) (deliveriesOf m b e);
+      event = λ e z. ap (λ (r : Read). turnOf b m r .turned .number) z ∙ turned-number (refusal m b e) (kindOf e) (receiversOf m b e);
       does = λ e z h.
-          (ap (λ (r : Read). turnOf b m r .network) z ∙ done-accepted b m e h .0, ap (λ (r : Read). turnOf b m r .turned .deliveries) z ∙ done-accepted b m e h .1);
+          (ap (λ (r : Read). turnOf b m r .network) z ∙ done-accepted b m e h .0, ap (λ (r : Read). turnOf b m r .turned .receivers) z ∙ done-accepted b m e h .1);
     }
 
 -- every place of a run

@@ -7,6 +7,7 @@ use native.Mathlib.Omega.{arith}
 use native.Mathlib.Numerals.{add-one}
 use lib.ListN.{length}
 use Rattle.sets.specs.laws.Bools.{below-suc}
+use Rattle.sets.specs.Set.{size}
 use Rattle.sets.specs.Sums.{sum}
 use Rattle.sets.specs.laws.Sums.{sum-start, sum-more}
 use Rattle.network.specs.declared.Network.{Network}
@@ -17,18 +18,18 @@ use Rattle.engine.specs.Run.{zeroTally, Final, runFrom, runAll}
 use Rattle.engine.specs.RunLaws.{outcomeAt, tallyAfter}
 use Rattle.engine.specs.laws.RunLaws.{run-ind}
 use Rattle.engine.specs.laws.RunCounts.{tallied-deliveries}
-use Rattle.engine.specs.laws.RunSound.{turn-delivers, reads-fit, turn-sound}
+use Rattle.engine.specs.laws.RunSound.{turn-receivers, reads-fit, turn-sound}
 use Rattle.endian.specs.laws.Le.{Bytes}
 use Rattle.network.specs.Network.{Rows}
 use Rattle.network.specs.Sound.{Sound}
 use Rattle.pages.specs.RunReached.{reached, turnAt}
 
 -- What a run's end says of the records: each before the accepted count was accepted, the network is the one reached there, the
--- deliveries are theirs, and where it was refused the number is that of the record at its place.
+-- deliveries are their receivers, and where it was refused the number is that of the record at its place.
 pub record Along (ev : List ℕ) (b : Table) (n : Network) (f : Final) : Type 0 where
   pub each : (i : ℕ) → i < f .answer .accepted → turnAt ev b n i .number ≡ 0
   pub network : f .network ≡ reached ev b n (f .answer .accepted)
-  pub deliveries : f .tally .deliveries ≡ sum (f .answer .accepted) (λ i. turnAt ev b n i .deliveries)
+  pub deliveries : f .tally .deliveries ≡ sum (f .answer .accepted) (λ i. size (turnAt ev b n i .receivers))
   pub why : (f .answer .number ≡ 0 → ⊥) → f .answer .number ≡ turnAt ev b n (f .answer .place) .number
 
 module _ (ev : List ℕ) (b : Table) (n : Network) where
@@ -36,7 +37,7 @@ module _ (ev : List ℕ) (b : Table) (n : Network) where
   record So (place : ℕ) (m : Network) (t : Tally) : Type 0 where
     each : (i : ℕ) → i < place → turnAt ev b n i .number ≡ 0
     network : m ≡ reached ev b n place
-    deliveries : t .deliveries ≡ sum place (λ i. turnAt ev b n i .deliveries)
+    deliveries : t .deliveries ≡ sum place (λ i. size (turnAt ev b n i .receivers))
 
   one-more : (place : ℕ) → reached ev b n (place + 1) ≡ outcomeAt ev place b (reached ev b n place) .network
   unfolding reached
@@ -48,7 +49,7 @@ module _ (ev : List ℕ) (b : Table) (n : Network) where
       record {
         each = λ i l. ⊎-elim (s .each i) (λ z. rw z (rw (s .network) at e)) (below-suc i place (rw (← (add-one place)) l));
         network = ap (λ (x : Network). outcomeAt ev place b x .network) (s .network) ∙ sym (one-more place);
-        deliveries = tallied-deliveries t _ _ (turn-delivers b m (readAt ev place)) ∙ rw (s .network) (omega (arith, s .deliveries, sum-more place (λ i. turnAt ev b n i .deliveries)));
+        deliveries = tallied-deliveries t _ _ (turn-receivers b m (readAt ev place)) ∙ rw (s .network) (omega (arith, s .deliveries, sum-more place (λ i. size (turnAt ev b n i .receivers))));
       }
 
   along : (k place : ℕ) (m : Network) (t : Tally) → So place m t → Along ev b n (runFrom k ev place b m t)
@@ -63,7 +64,7 @@ module _ (ev : List ℕ) (b : Table) (n : Network) where
   unfolding runAll reached
   run-along =
       along (length ev / 16) 0 n zeroTally
-      (record { each = λ i l. absurd (omega arith); network = refl; deliveries = sum-start (λ i. turnAt ev b n i .deliveries) })
+      (record { each = λ i l. absurd (omega arith); network = refl; deliveries = sum-start (λ i. size (turnAt ev b n i .receivers)) })
 
 -- every network on the way is sound
 pub reached-sound : (ev : List ℕ) → Bytes ev → {b : Table} → Rows b → {n : Network} → Sound n → (i : ℕ) → Sound (reached ev b n i)

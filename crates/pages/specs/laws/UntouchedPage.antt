@@ -7,12 +7,13 @@ use Prim.Native.Nat.{ℕ}
 use lib.Dec.{eqb, ltb}
 use lib.ListN.{length}
 use Rattle.sets.specs.laws.Bools.{ne-eqb}
+use Rattle.sets.specs.laws.Sizes.{size-none}
 use Rattle.network.specs.Network.{peer, message}
 use Rattle.network.specs.declared.Checked.{Checked}
 use Rattle.network.specs.Rules.{checked}
 use Rattle.network.specs.State.{openOf, bytesOf}
 use Rattle.floodnet.specs.Refusals.{refusalForward}
-use Rattle.floodnet.specs.Forward.{forwarded, deliveries}
+use Rattle.floodnet.specs.Forward.{forwarded, receivers}
 use Rattle.broadcastnet.specs.Commit.{imageNet}
 use Rattle.engine.specs.declared.Begun.{Begun}
 use Rattle.engine.specs.Start.{beginOf}
@@ -23,7 +24,8 @@ use Rattle.pages.specs.UntouchedPage.{UntouchedPage}
 
 -- ---- it holds
 
-forward-untouched : (s t : List ℕ) (p m : ℕ) → (forwardOf s t p m .answer .number ≡ 0 → ⊥) → (forwardOf s t p m .answer .deliveries ≡ 0) × (forwardOf s t p m .state ≡ s)
+forward-untouched : (s t : List ℕ) (p m : ℕ) → (forwardOf s t p m .answer .number ≡ 0 → ⊥)
+    → (forwardOf s t p m .answer .receivers ≡ 0) × (forwardOf s t p m .answer .deliveries ≡ 0) × (forwardOf s t p m .state ≡ s)
 unfolding forwardOf forwardOn
 forward-untouched s t p m = first (eqb (g .number) 0) (ltb p 32 && ltb m 64) (eqb k 0)
   where
@@ -36,18 +38,18 @@ forward-untouched s t p m = first (eqb (g .number) 0) (ltb p 32 && ltb m 64) (eq
     done : Forwards
     done =
         record {
-          answer = forwardedBy 0 0 0 (deliveries (g .network) (g .table) (peer p) (message m));
+          answer = forwardedBy 0 0 0 (receivers (g .network) (g .table) (peer p) (message m));
           state = bytesOf (forwarded (g .network) (g .table) (peer p) (message m));
         }
 
     Told : Forwards → Type 0
-    Told f = (f .answer .number ≡ 0 → ⊥) → (f .answer .deliveries ≡ 0) × (f .state ≡ s)
+    Told f = (f .answer .number ≡ 0 → ⊥) → (f .answer .receivers ≡ 0) × (f .answer .deliveries ≡ 0) × (f .state ≡ s)
 
     first : (x y z : Bool) → Told (cond x (cond y (cond z done (noForward k 0 0 s)) (noForward 7 0 0 s)) (noForward (g .number) (g .place) (g .detail) s))
     first true true true = λ h. absurd (h refl)
-    first true true false = λ h. (refl, refl)
-    first true false z = λ h. (refl, refl)
-    first false y z = λ h. (refl, refl)
+    first true true false = λ h. (refl, size-none, refl)
+    first true false z = λ h. (refl, size-none, refl)
+    first false y z = λ h. (refl, size-none, refl)
 
 image-untouched : (s buffer : List ℕ) → (imageAnswerOf s buffer .number ≡ 0 → ⊥) → imagedOf s buffer ≡ buffer
 unfolding imageAnswerOf imagedOf
@@ -87,7 +89,7 @@ forward-then s t p m z = rw z (first (ltb p 32 && ltb m 64) (eqb k 0))
     done : Forwards
     done =
         record {
-          answer = forwardedBy 0 0 0 (deliveries (g .network) (g .table) (peer p) (message m));
+          answer = forwardedBy 0 0 0 (receivers (g .network) (g .table) (peer p) (message m));
           state = bytesOf (forwarded (g .network) (g .table) (peer p) (message m));
         }
 

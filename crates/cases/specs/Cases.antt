@@ -15,12 +15,12 @@ use Rattle.events.specs.declared.Fields.{Fields}
 use Rattle.events.specs.Event.{readingOf, readOf, readingAt, readAt, decodeOf, fieldsAt, orSeven, skipOk, pairOk, topicsOk, leaveOk, joinOk, noMore, noSets, noMessage}
 use Rattle.events.specs.Writing.{fieldsMk, putFields, putHead}
 use Rattle.floodnet.specs.Produce.{holders, isNew, produced}
-use Rattle.floodnet.specs.Forward.{moved, receivers, given, forwarded, deliveries}
+use Rattle.floodnet.specs.Forward.{moved, receivers, given, forwarded}
 use Rattle.floodnet.specs.Links.{linkUp, linkDown, cleared, placed, left, joined}
 use Rattle.network.specs.Rules.{need}
 use Rattle.floodnet.specs.Refusals.{refusalProduce, refusalForward, refusalLeave, refusalJoin}
 use Rattle.events.specs.Kind.{kindOf}
-use Rattle.floodnet.specs.Step.{refusal, effect, ifAccepted, after, deliveriesOf, turned, turnedOf}
+use Rattle.floodnet.specs.Step.{refusal, effect, ifAccepted, after, receiversOf, turned, turnedOf}
 use Rattle.floodnet.specs.View.{view, fwd}
 use Rattle.broadcastnet.specs.Commit.{together, underway, without, image}
 use Rattle.drain.specs.Drain.{drainOf, quietOf}
@@ -93,7 +93,7 @@ table = start ++ (refused ++ (leaving ++ (joining ++ (draining ++ again))))
 
 -- The test of a list of rows (specs/Worked.antt), with all that it takes to work it out.
 tested : List Row → Bool
-unfolding answer-is images-are drained-is join produce forward leave H bytes ended small proper same alike works every A7 runAll runFrom turnOf talliedOf refusal effect ifAccepted after kindOf deliveriesOf turned turnedOf need refusalProduce refusalForward refusalLeave refusalJoin linkUp linkDown cleared placed left joined moved receivers given forwarded deliveries holders isNew produced putFields putHead readingOf readOf readingAt readAt decodeOf fieldsAt orSeven skipOk pairOk topicsOk leaveOk joinOk noMore noSets noMessage blankTable blankNet le putLe edit has union meet minus only when puts strikes empties setOf sift size ones all view fwd together underway without image drainOf quietOf run row todo round drain
+unfolding answer-is images-are drained-is join produce forward leave H bytes ended small proper same alike works every A7 runAll runFrom turnOf talliedOf refusal effect ifAccepted after kindOf receiversOf turned turnedOf need refusalProduce refusalForward refusalLeave refusalJoin linkUp linkDown cleared placed left joined moved receivers given forwarded holders isNew produced putFields putHead readingOf readOf readingAt readAt decodeOf fieldsAt orSeven skipOk pairOk topicsOk leaveOk joinOk noMore noSets noMessage blankTable blankNet le putLe edit has union meet minus only when puts strikes empties setOf sift size ones all view fwd together underway without image drainOf quietOf run row todo round drain
 tested l = every l
 
 tested-hold : (l : List Row) → tested l ≡ true → Each l

@@ -13,6 +13,7 @@ use Rattle.network.specs.declared.Table.{Table}
 use Rattle.network.specs.Network.{peer, message}
 use Rattle.network.specs.State.{bytesOf}
 use Rattle.events.specs.declared.Event.{Event}
+use Rattle.events.specs.declared.Read.{Read}
 use Rattle.events.specs.Writing.{recordOf}
 use Rattle.events.specs.Fits.{EventFits}
 use Rattle.events.specs.laws.RoundTrip.{record-length, read-record}
@@ -95,7 +96,7 @@ one-runs s t e old z = rw (record-length e, one-begins s t, z)
 one-receives : (b : Table) (n : Network) (p m : ℕ) → EventFits (forwardEvent p m) → refusalForward n (peer p) (message m) ≡ 0
     → turnAt (recordOf (forwardEvent p m)) b n 0 .receivers ≡ receivers n b (peer p) (message m)
 unfolding reached turnOf
-one-receives b n p m f z = rw (read-record (forwardEvent p m) f) (forward-receivers n b p m z)
+one-receives b n p m f z = ap (λ (r : Read). turnOf b n r .turned .receivers) (read-record (forwardEvent p m) f) ∙ forward-receivers n b p m z
 
 -- THE SINGLE FORWARD IS THE RUN OF ITS ONE EVENT: the same state, its receivers are those of the event, and their number is the tally's.
 pub forward-is-run : (s t : List ℕ) (p m : ℕ) (old : Tally) → forwardOf s t p m .answer .number ≡ 0

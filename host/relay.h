@@ -100,7 +100,8 @@ typedef struct relay_forwarded {
     uint8_t number;
     uint8_t detail;
     size_t place;
-    uint32_t deliveries; /* peers that newly hold the message; 0 if refused */
+    uint32_t deliveries; /* how many peers newly hold the message: the size of the set below; 0 if refused */
+    uint32_t receivers;  /* these peers, as a set; 0 if refused */
 } relay_forwarded;
 
 typedef struct relay_drained {

@@ -26,7 +26,7 @@ pub struct Answer {
     pub accepted: usize,
 }
 
-/// The answer of a single forward: the deliveries are 0 if it is refused.
+/// The answer of a single forward: the peers that newly hold the message, as a set, and how many they are; both 0 if it is refused.
 #[must_use = "the number says whether the forward was refused"]
 #[repr(C)]
 #[derive(Clone, Copy, Debug, PartialEq, Eq)]
@@ -35,6 +35,7 @@ pub struct Forwarded {
     pub detail: u8,
     pub place: usize,
     pub deliveries: u32,
+    pub receivers: u32,
 }
 
 /// The answer of a drain: the forwards made, the rounds finished, and whether nothing is pending.

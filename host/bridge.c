@@ -5,8 +5,8 @@
  *
  *   call   0 function; 1 peer; 2 message; 4-7 budget; 8-31 lengths of three buffers, 8 bytes each; 32-55 tally;
  *          56-63 zero; then the buffers
- *   answer 0 number; 1 detail; 2 quiet; 8-15 place; 16-23 accepted; 24-27 deliveries or forwards; 28-31 receivers or rounds; 32-55 tally;
- *          the rest zero; then the buffers
+ *   answer 0 number; 1 detail; 2 quiet; 8-15 place; 16-23 accepted; 24-27 deliveries or forwards; 28-31 receivers or
+ *          rounds; 32-55 tally; the rest zero; then the buffers
  */
 #include "relay.h"
 

@@ -26,7 +26,7 @@ pub struct Answer {
     pub accepted: usize,
 }
 
-/// The answer of a single forward: the peers that newly hold the message, as a set, and how many they are; both 0 if it is refused.
+/// The answer of a single forward: how many peers newly hold the message, and which, as a set; both 0 if it is refused.
 #[must_use = "the number says whether the forward was refused"]
 #[repr(C)]
 #[derive(Clone, Copy, Debug, PartialEq, Eq)]

@@ -249,15 +249,18 @@ produce 0 5
 forward 0 5
 refused 13 forward 0 5
 tally
+run none.records
 picture to.svg
 dot to.dot message 5
 dot other.dot message 6
-skip
+run skip.records
 picture later.svg
 dot later.dot message 5
 forward 1 5
 picture nobody.svg
 LINES
+: >none.records
+head -c 16 /dev/zero >skip.records
 "$relay" arrows.relay >arrows.out
 [ "$(grep -c '<path class="arrow"' to.svg)" -eq 2 ] && grep -q '<title>0 to 1: message 5<' to.svg && grep -q '<title>0 to 2: message 5<' to.svg &&
     grep -q '>message 5, delivered by the last forward<' to.svg

@@ -5,8 +5,8 @@
  *
  *   call   0 function; 1 peer; 2 message; 4-7 budget; 8-31 lengths of three buffers, 8 bytes each; 32-55 tally;
  *          56-63 zero; then the buffers
- *   answer 0 number; 1 detail; 2 quiet; 8-15 place; 16-23 accepted; 24-27 deliveries or forwards; 28-31 rounds; 32-55 tally;
- *          the rest zero; then the buffers
+ *   answer 0 number; 1 detail; 2 quiet; 8-15 place; 16-23 accepted; 24-27 deliveries or forwards; 28-31 receivers or
+ *          rounds; 32-55 tally; the rest zero; then the buffers
  */
 #include "relay.h"
 
@@ -57,12 +57,11 @@ static void put(uint8_t *head, uint8_t number, uint8_t detail, uint64_t place)
     memcpy(head + 8, &place, 8);
 }
 
-/* The same for what a drain counts; the deliveries of a forward stand where its forwards do. */
-static void put_counts(uint8_t *head, uint32_t count, uint32_t rounds, bool quiet)
+/* The same for the two words of a forward or a drain: deliveries and receivers, or forwards and rounds. */
+static void put_words(uint8_t *head, uint32_t first, uint32_t second)
 {
-    head[2] = quiet;
-    memcpy(head + 24, &count, 4);
-    memcpy(head + 28, &rounds, 4);
+    memcpy(head + 24, &first, 4);
+    memcpy(head + 28, &second, 4);
 }
 
 /* Calls one of the functions that answer no more than number, detail and place. */
@@ -103,13 +102,14 @@ static void answer(const struct call *call, uint8_t head[HEAD])
     case FORWARD: {
         relay_forwarded f = relay_forward(buffer[0], length[0], buffer[1], length[1], call->head[1], call->head[2]);
         put(head, f.number, f.detail, f.place);
-        put_counts(head, f.deliveries, 0, false);
+        put_words(head, f.deliveries, f.receivers);
         break;
     }
     case DRAIN: {
         relay_drained d = relay_drain(buffer[0], length[0], buffer[1], length[1], budget);
         put(head, d.number, d.detail, d.place);
-        put_counts(head, d.forwards, d.rounds, d.quiet);
+        put_words(head, d.forwards, d.rounds);
+        head[2] = d.quiet;
         break;
     }
     default: {

@@ -43,6 +43,19 @@ static void print_seen(const char *title, const uint8_t *state)
     }
 }
 
+/* The answer to a forward, with the peers that newly hold the message. */
+static void print_forwarded(const char *title, relay_forwarded forwarded)
+{
+    printf("%s: number %d, place %zu, deliveries %u, to", title, forwarded.number, forwarded.place,
+           forwarded.deliveries);
+    for (int peer = 0; peer < RELAY_PEERS; peer++) {
+        if (forwarded.receivers & only(peer)) {
+            printf(" %d", peer);
+        }
+    }
+    printf("%s\n", forwarded.receivers == 0 ? " nobody" : "");
+}
+
 int main(void)
 {
     static uint8_t state[RELAY_STATE_BYTES]; /* zero bytes: a blank network */
@@ -68,10 +81,9 @@ int main(void)
     print_seen("image (message 5 is still under way, so nobody has it there):", image);
 
     /* The desk that just forwarded has nothing left to forward: refused, and the state stays as it is. */
-    relay_forwarded again = relay_forward(state, sizeof state, table, sizeof table, 0, 5);
-    printf("forward 0 5 again: number %d, place %zu, deliveries %u\n", again.number, again.place, again.deliveries);
-    relay_forwarded next = relay_forward(state, sizeof state, table, sizeof table, 1, 5);
-    printf("forward 1 5: number %d, place %zu, deliveries %u\n", next.number, next.place, next.deliveries);
+    print_forwarded("forward 0 5 again", relay_forward(state, sizeof state, table, sizeof table, 0, 5));
+    /* Desk 1 passes it to desk 2; desk 0, which it came from, has seen it. */
+    print_forwarded("forward 1 5", relay_forward(state, sizeof state, table, sizeof table, 1, 5));
 
     relay_drained drained = relay_drain(state, sizeof state, table, sizeof table, RELAY_ENOUGH);
     printf("drain: number %d, forwards %u, rounds %u, quiet %s\n", drained.number, drained.forwards, drained.rounds,

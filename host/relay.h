@@ -100,7 +100,8 @@ typedef struct relay_forwarded {
     uint8_t number;
     uint8_t detail;
     size_t place;
-    uint32_t deliveries; /* peers that newly hold the message; 0 if refused */
+    uint32_t deliveries; /* how many peers newly hold the message: the size of the set below; 0 if refused */
+    uint32_t receivers;  /* these peers, a set: bit q is peer q; 0 if refused */
 } relay_forwarded;
 
 typedef struct relay_drained {
@@ -126,8 +127,9 @@ relay_answer relay_run(uint8_t *state, size_t state_length, const uint8_t *table
                        const uint8_t *events, size_t events_length, relay_tally *tally);
 
 /* Forwards one message: it moves from pending to seen at the peer; then each known subscriber of its topic there gets
- * it pending, unless it is pending or seen there. Refuses by 1, 2, 4, 20 to 26, 7, 8, 13 in this order, place 0 for the
- * last three, buffers untouched. */
+ * it pending, unless it is pending or seen there. Those that get it are the receivers: the neighbours that subscribe to
+ * the topic and had it neither pending nor seen, never the peer itself. Refuses by 1, 2, 4, 20 to 26, 7, 8, 13 in this
+ * order, place 0 for the last three, no receivers, buffers untouched. */
 relay_forwarded relay_forward(uint8_t *state, size_t state_length, const uint8_t *table, size_t table_length,
                               uint8_t peer, uint8_t message);
 

@@ -44,9 +44,9 @@ gives 1 "$room/explained" "$relay" explain row63
 # The same for a program: what becomes of the table is a note, a refused state or table a refusal.
 cat >want <<'LINES'
 {"kind":"note","words":"quiet.state has no table; the one at hand stays: every message but 8 has topic 0 and origin 0"}
-{"kind":"event","place":0,"event":"leave 2","deliveries":0}
+{"kind":"event","place":0,"event":"leave 2","deliveries":0,"receivers":[]}
 {"kind":"note","words":"flight: its table has other rows for messages 5,8 than before"}
-{"kind":"event","place":0,"event":"forward 0 5","deliveries":1}
+{"kind":"event","place":0,"event":"forward 0 5","deliveries":1,"receivers":[2]}
 {"kind":"note","words":"blank: what the table said of message 5 is gone; every message has topic 0 and origin 0"}
 {"kind":"refusal","number":4,"place":63,"detail":0,"words":"row63's table is refused: ROW"}
 {"kind":"stopped","status":1,"script":"standard input","line":7,"words":"row63's table is refused: ROW"}
@@ -141,7 +141,7 @@ relay> join 0 pubs 0: 1 peer present, linked to none
 relay> there is no command `jion`; is it `join`?
 relay> produce 0 5: pending at 0, seen by nobody
 relay> written: "a b"
-relay> forward 0 5: 0 deliveries, pending nowhere, seen by 0
+relay> forward 0 5: to nobody; pending nowhere, seen by 0
 relay> taken back: forward 0 5; 1 peer present, 1 pair pending
 relay> taken back: produce 0 5; 1 peer present, nothing pending
 relay> 1 peer present, 1 pair pending
@@ -154,6 +154,11 @@ gives 0 want "$relay" -i <typed
 printf '%s\n' 'join 0 pubs 0' 'produce 0 5' skip undo drain undo 'events undone' | "$relay" -i >undone.out
 printf 'join 0 pubs 0\nproduce 0 5\n' >want
 gives 0 want "$relay" decode undone
+head -n 6 arrows.relay >typed
+printf '%s\n' 'dot one.dot' skip 'dot none.dot' undo drain 'dot drained.dot' undo 'dot again.dot' >>typed
+"$relay" -i <typed >typed.out && grep -q '^relay> forward 0 5: to 1,2; pending at 1,2, seen by 0$' typed.out && cmp one.dot again.dot &&
+    grep -q 'dir=forward' one.dot && ! grep -q 'dir=forward' none.dot drained.dot
+verdict $? "what is taken back brings the arrows of the forward before it"
 cat records records >twice
 printf 'run twice\nundo\n' | "$relay" -i | grep -q 'taken back: run twice; 0 peers present, nothing pending$'
 verdict $? "a run that is refused on its way is taken back whole"

@@ -235,6 +235,42 @@ verdict $? "decode refuses a cut file"
 verdict $? "pictures have every peer and link"
 { grep -B 99 '^forward' "$examples/first.relay"; echo 'picture first.svg message 5'; } | "$relay" >first.out
 same "$docs/first.svg" first.svg "the picture of docs/HOST.md"
+"$relay" -v "$examples/first.relay" | grep -E '^(produce|forward)' >first.out
+grep -q '^forward 0 5: to 1; ' first.out && ! grep -Fxv -f "$docs/HOST.md" first.out
+verdict $? "-v says to whom a forward went, as docs/HOST.md has it"
+
+# Right after a forward pictures have an arrow to each receiver: what only looks or is refused leaves them, all else ends them.
+cat >arrows.relay <<'LINES'
+join 0 pubs 0
+join 1 subs 0 neighbours 0
+join 2 subs 0 neighbours 0,1
+join 3 neighbours 0
+produce 0 5
+forward 0 5
+refused 13 forward 0 5
+tally
+run none.records
+picture to.svg
+dot to.dot message 5
+dot other.dot message 6
+run skip.records
+picture later.svg
+dot later.dot message 5
+forward 1 5
+picture nobody.svg
+LINES
+: >none.records
+head -c 16 /dev/zero >skip.records
+"$relay" arrows.relay >arrows.out
+[ "$(grep -c '<path class="arrow"' to.svg)" -eq 2 ] && grep -q '<title>0 to 1: message 5<' to.svg && grep -q '<title>0 to 2: message 5<' to.svg &&
+    grep -q '>message 5, delivered by the last forward<' to.svg
+verdict $? "a picture has an arrow to each receiver"
+sed 's/\\narrow: [^"]*//; s/ \[dir=forward, [^]]*\]//' to.dot | cmp - later.dot && [ "$(grep -c '^    0 -- [12] \[dir=forward, ' to.dot)" -eq 2 ]
+verdict $? "dot has the same arrows, and differs in nothing else"
+! grep -qE 'arrow|dir=' other.dot later.svg later.dot nobody.svg && [ -s nobody.svg ]
+verdict $? "no arrow for another message, after another event, or to nobody"
+grep -q '^tally of the events: 1 produced, 1 forward, 2 deliveries$' arrows.out
+verdict $? "the tally has as many deliveries as receivers"
 
 # 32 desks with many topics: no line of `show` has 120 columns.
 for desk in $(seq 0 31); do

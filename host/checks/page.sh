@@ -30,13 +30,15 @@ gives 2 examples/bad.out "$relay" page examples/bad.relay "$room/none.html"
 verdict $? "bad text makes no page"
 
 # A record file is played event by event, up to the one that is refused.
-printf 'join 0 pubs 0\nproduce 0 5\nforward 0 5\n' >"$room/lines"
+printf 'join 0 pubs 0\njoin 1 subs 0 neighbours 0\nproduce 0 5\nforward 0 5\n' >"$room/lines"
 "$relay" encode "$room/lines" "$room/records"
 printf 'run %s\nrun %s\n' "$room/records" "$room/records" >"$room/twice.relay"
 echo "$room/twice.relay:2: $room/records: join 0 pubs 0 is refused: joining peer already present (9, event 0)" >"$room/want"
 gives 1 "$room/want" "$relay" page "$room/twice.relay" "$room/twice.html"
-[ "$(grep -o '"line":[0-9]*,"source"' "$room/twice.html" | tr -dc '0-9\n' | tr '\n' ' ')" = "0 1 1 1 2 " ]
+[ "$(grep -o '"line":[0-9]*,"source"' "$room/twice.html" | tr -dc '0-9\n' | tr '\n' ' ')" = "0 1 1 1 1 2 " ]
 verdict $? "a page has a step for each event of a record file"
+grep -q '"text":"[^"]*/records: forward 0 5: to 1; pending at 1, seen by 0","refused":false,"round":0,"deliveries":\[\[0,1,5\]\]' "$room/twice.html"
+verdict $? "a page has the receivers of a record's forward"
 
 # Two messages at once, by the lines of the script, and the same with what `relay --json` says at each step. A drain by as many
 # forwards as are pending is one round.
@@ -91,6 +93,24 @@ else
         grep -v '^{' "$room/played" >"$room/drawn"
         same "host/checks/page-$message.out" "$room/drawn" "a browser shows what happened, message $message"
     done
+    # A forward by itself: an arrow to each of the receivers that --json tells, and none at the other steps.
+    cat >"$room/forwards.relay" <<'LINES'
+join 0 pubs 0
+join 1 subs 0 neighbours 0
+join 2 subs 0 neighbours 0,1
+join 3 subs 0 neighbours 1,2
+produce 0 5
+forward 0 5
+forward 1 5
+forward 2 5
+LINES
+    "$relay" page "$room/forwards.relay" "$room/forwards.html"
+    play "$room/forwards.html" message=5
+    sed -n 's/^arrows *//p' "$room/played" | tail -n 8 >"$room/drawn"
+    "$relay" --json -v "$room/forwards.relay" | sed -n 's/.*"event":"[a-z]* \([0-9]*\).*"receivers":\[\(.*\)\]}/\1 \2/p' |
+        awk '{ n = split($2, to, ","); line = ""; for (i = 1; i <= n; i++) line = line (i > 1 ? " " : "") $1 "-" to[i] ":5"; print line }' >"$room/want"
+    [ "$(tr '\n' '/' <"$room/want")" = "/////0-1:5 0-2:5/1-3:5//" ] && diff -u "$room/want" "$room/drawn"
+    verdict $? "a browser shows an arrow to each receiver of a forward"
     {
         echo "join 0 subs 0 pubs 0"
         for desk in $(seq 31); do echo "join $desk subs 0 neighbours 0-$((desk - 1))"; done

@@ -181,7 +181,13 @@ pub fn run(state: &mut [u8], table: &[u8], events: &[u8], tally: &mut Tally) -> 
 pub fn forward(state: &mut [u8], table: &[u8], peer: u8, message: u8) -> Forwarded {
     let arguments = Arguments { peer, message, ..Arguments::default() };
     let head = call(Function::Forward, arguments, &mut [Lent::Write(state), Lent::Read(table)]);
-    Forwarded { number: head[0], detail: head[1], place: place(&head), deliveries: half(&head, 24) }
+    Forwarded {
+        number: head[0],
+        detail: head[1],
+        place: place(&head),
+        deliveries: half(&head, 24),
+        receivers: half(&head, 28),
+    }
 }
 
 pub fn drain(state: &mut [u8], table: &[u8], budget: u32) -> Drained {

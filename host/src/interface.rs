@@ -26,7 +26,7 @@ pub struct Answer {
     pub accepted: usize,
 }
 
-/// The answer of a single forward: the deliveries are 0 if it is refused.
+/// The answer of a single forward: how many peers newly hold the message, and which, as a set; both 0 if it is refused.
 #[must_use = "the number says whether the forward was refused"]
 #[repr(C)]
 #[derive(Clone, Copy, Debug, PartialEq, Eq)]
@@ -35,6 +35,7 @@ pub struct Forwarded {
     pub detail: u8,
     pub place: usize,
     pub deliveries: u32,
+    pub receivers: u32,
 }
 
 /// The answer of a drain: the forwards made, the rounds finished, and whether nothing is pending.

@@ -102,11 +102,26 @@ impl Network {
         }
     }
 
-    /// Forwards one message and answers the deliveries; refused by 8, then 13.
-    pub fn forward(&mut self, table: &Table, peer: Peer, message: Message) -> Result<u32, Refusal> {
+    /// Forwards one message and answers the receivers: the peers that newly hold it, which are those neighbours that subscribe to
+    /// its topic and had it neither pending nor seen. As many as they are, so many are the deliveries. Refused by 8, then 13.
+    ///
+    /// ```
+    /// use relay_host::{Message, Network, Number, Peer, Set, Table};
+    ///
+    /// let (table, mut network) = (Table::zero(), Network::blank());
+    /// for line in ["join 0 pubs 0", "join 1 subs 0 neighbours 0", "join 2 subs 0 neighbours 0,1", "produce 0 5"] {
+    ///     network.apply(&table, &line.parse().unwrap()).unwrap();
+    /// }
+    /// let (zero, one, five) = (Peer::new(0).unwrap(), Peer::new(1).unwrap(), Message::new(5).unwrap());
+    /// let receivers = network.forward(&table, zero, five).unwrap();
+    /// assert_eq!((receivers.to_string().as_str(), receivers.len()), ("1,2", 2));
+    /// assert_eq!(network.forward(&table, one, five), Ok(Set::empty())); // 0 has seen it, 2 holds it
+    /// assert!(network.forward(&table, one, five).is_err()); // it is no longer pending there
+    /// ```
+    pub fn forward(&mut self, table: &Table, peer: Peer, message: Message) -> Result<Set<Peer>, Refusal> {
         let forwarded = raw::forward(&mut self.bytes[..], table.bytes(), peer.get(), message.get());
         Refusal::of_answer(forwarded.number, forwarded.place, forwarded.detail)?;
-        Ok(forwarded.deliveries)
+        Ok(Set::of_word(forwarded.receivers.into()))
     }
 
     /// Forwards by rounds until nothing is pending or the budget is spent. By what is proved the engine refuses no sound network

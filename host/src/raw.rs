@@ -50,7 +50,8 @@ pub fn run(state: &mut [u8], table: &[u8], events: &[u8], tally: &mut Tally) -> 
     engine::run(state, table, events, tally)
 }
 
-/// Forwards one message.
+/// Forwards one message. The receivers are a word in which bit q stands for peer q, `deliveries` is how many they are; both are 0
+/// if the forward is refused.
 pub fn forward(state: &mut [u8], table: &[u8], peer: u8, message: u8) -> Forwarded {
     engine::forward(state, table, peer, message)
 }

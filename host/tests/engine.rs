@@ -1,6 +1,9 @@
 //! The engine through this crate: the cases of document 01, what it refuses, and that the host's own reading of records
 //! agrees with the engine's.
 
+mod numbers;
+
+use numbers::Numbers;
 use relay_host::event::{decode_all, RECORD};
 use relay_host::raw::{self, Answer, Checked, Forwarded};
 use relay_host::{Event, Message, Network, Number, Peer, Reason, Refusal, Set, Table, Tally};
@@ -29,6 +32,11 @@ fn peer(number: u8) -> Peer {
     Peer::new(number).unwrap()
 }
 
+/// The set with one member.
+fn only(number: u8) -> Set<Peer> {
+    [peer(number)].into_iter().collect()
+}
+
 #[test]
 fn cases_of_document_01() {
     let a7 = ["produce 0 5", "forward 0 5", "leave 0"];
@@ -52,14 +60,13 @@ fn images_and_neighbours_of_the_cases() {
     let (mut produced, _) = after(&[&H[..], &["produce 0 5"]].concat());
     assert_eq!(produced.image(), start.image(), "A2: image as after H");
     let (left, _) = after(&[&H[..], &["produce 0 5", "forward 0 5", "leave 0"]].concat());
-    let neighbours: Set<Peer> = [peer(2)].into_iter().collect();
-    assert_eq!(left.desk(peer(1)).unwrap().neighbours, neighbours, "A7");
+    assert_eq!(left.desk(peer(1)).unwrap().neighbours, only(2), "A7");
     for (budget, forwards, rounds, quiet) in [(2048, 3, 3, true), (2, 2, 2, false), (0, 0, 0, false)] {
         let drained = produced.clone().drain(&Table::zero(), budget).unwrap();
         assert_eq!((drained.forwards, drained.rounds, drained.quiet), (forwards, rounds, quiet), "A11");
     }
     let five = Message::new(5).unwrap();
-    assert_eq!(produced.forward(&Table::zero(), peer(0), five), Ok(1));
+    assert_eq!(produced.forward(&Table::zero(), peer(0), five), Ok(only(1)));
     let refusal = produced.forward(&Table::zero(), peer(0), five).unwrap_err();
     assert_eq!(refusal, Refusal::at(Reason::NotPending, 0));
 }
@@ -115,8 +122,12 @@ fn wrong_lengths_and_damage_are_refused_and_nothing_is_written() {
     assert_eq!(raw::copy(sound, &mut image), Checked { number: 1, detail: 0, place: 0 });
     assert_eq!(raw::copy(&unsound, &mut image), Checked { number: 24, detail: 1, place: 0 });
     assert_eq!(image, [1; 5119]);
-    let refused = Forwarded { number: 7, detail: 0, place: 0, deliveries: 0 };
-    assert_eq!(raw::forward(&mut sound.to_vec(), &[0; 256], 0, 64), refused);
+    let refused = |number| Forwarded { number, detail: 0, place: 0, deliveries: 0, receivers: 0 };
+    for (peer, message, number) in [(0, 64, 7), (32, 5, 7), (31, 5, 8), (1, 5, 13)] {
+        let mut lent = sound.to_vec();
+        assert_eq!(raw::forward(&mut lent, &[0; 256], peer, message), refused(number));
+        assert!(lent == sound);
+    }
 }
 
 #[test]
@@ -135,15 +146,7 @@ fn files_are_read_only_if_the_engine_accepts_them() {
     assert_eq!(Table::read(&rows).unwrap().bytes(), rows);
 }
 
-/// A small generator of numbers, the same on every run.
-struct Numbers(u64);
-
 impl Numbers {
-    fn below(&mut self, bound: u64) -> u64 {
-        self.0 = self.0.wrapping_mul(6364136223846793005).wrapping_add(1442695040888963407);
-        (self.0 >> 33) % bound
-    }
-
     /// A record of few peers, topics and messages, so that much of it is accepted; at times damaged.
     fn record(&mut self) -> [u8; RECORD] {
         let code = self.below(7) as u8;
@@ -155,7 +158,7 @@ impl Numbers {
         record[8] = if code == 6 { self.below(4) as u8 } else { 0 };
         record[12] = if code == 6 { self.below(64) as u8 } else { 0 };
         if self.below(8) == 0 {
-            record[self.below(16) as usize] = self.below(256) as u8;
+            record[self.below(16)] = self.below(256) as u8;
         }
         record
     }

@@ -130,7 +130,7 @@ fn fields_stand_where_c_has_them() {
     let asserted = places! {
         Tally: produced forwards deliveries;
         Answer: number detail place accepted;
-        Forwarded: number detail place deliveries;
+        Forwarded: number detail place deliveries receivers;
         Drained: number detail place forwards rounds quiet;
         Checked: number detail place;
     };
@@ -141,4 +141,5 @@ fn fields_stand_where_c_has_them() {
         (1, 8),
         "the detail stands in C's old padding"
     );
+    assert_eq!((offset_of!(Forwarded, receivers), size_of::<Forwarded>()), (20, 24), "so do the receivers");
 }

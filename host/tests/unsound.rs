@@ -1,6 +1,9 @@
 //! Unsound states through the engine: which number, place and detail each gets, from every entry point, and that the host's
 //! words find in the bytes what the engine has found.
 
+mod numbers;
+
+use numbers::Numbers;
 use relay_host::fault;
 use relay_host::raw::{self, Answer, Checked, Drained, Forwarded, Tally};
 use relay_host::{Event, Network, Reason, Refusal, Table};
@@ -42,7 +45,7 @@ fn answer(state: &[u8]) -> Said {
     let ran = raw::run(&mut lent, &TABLE, &[0; 16], &mut tally);
     assert_eq!(ran, Answer { number, detail, place, accepted: 0 });
     let forwarded = raw::forward(&mut lent, &TABLE, 1, 5);
-    assert_eq!(forwarded, Forwarded { number, detail, place, deliveries: 0 });
+    assert_eq!(forwarded, Forwarded { number, detail, place, deliveries: 0, receivers: 0 });
     let drained = raw::drain(&mut lent, &TABLE, 2048);
     assert_eq!(drained, Drained { number, detail, place, forwards: 0, rounds: 0, quiet: false });
     assert_eq!(raw::image(state, &mut other), Checked { number, detail, place });
@@ -158,18 +161,10 @@ fn a_refused_event_has_no_detail() {
     let ran = raw::run(&mut state, &TABLE, &leave.encode(), &mut Tally::default());
     assert_eq!(ran, Answer { number: 14, detail: 0, place: 0, accepted: 0 });
     let forwarded = raw::forward(&mut state, &TABLE, 2, 5);
-    assert_eq!(forwarded, Forwarded { number: 13, detail: 0, place: 0, deliveries: 0 });
+    assert_eq!(forwarded, Forwarded { number: 13, detail: 0, place: 0, deliveries: 0, receivers: 0 });
 }
 
-/// A small generator of numbers, the same on every run.
-struct Numbers(u64);
-
 impl Numbers {
-    fn below(&mut self, bound: usize) -> usize {
-        self.0 = self.0.wrapping_mul(6364136223846793005).wrapping_add(1442695040888963407);
-        (self.0 >> 33) as usize % bound
-    }
-
     /// Bits turned over in the records of the chain and one more: now in the first bytes, now in links and knowledge, now anywhere.
     fn damage(&mut self, state: &mut [u8]) {
         for _ in 0..=self.below(3) {

@@ -4,7 +4,7 @@ use crate::json::Object;
 use crate::{show, words, HELP};
 use relay_host::text::plain;
 use relay_host::Number;
-use relay_host::{Desk, Drained, Event, Image, Message, Network, Peer, Refusal, Table, Tally, Topic};
+use relay_host::{Desk, Drained, Event, Image, Message, Network, Peer, Refusal, Set, Table, Tally, Topic};
 
 /// For a person or for a program.
 #[derive(Clone, Copy, Debug, PartialEq, Eq)]
@@ -14,8 +14,8 @@ pub enum Form {
 }
 
 pub enum Answer<'a> {
-    /// The network after an accepted event, the event, its place and its tally.
-    Accepted(&'a Network, &'a Event, usize, &'a Tally),
+    /// The network after an accepted event, the event, its place, and the receivers if it is a forward.
+    Accepted(&'a Network, &'a Event, usize, Set<Peer>),
     /// A refusal, and all that is said of it.
     Refusal(&'a Refusal, &'a str),
     Network(&'a Network),
@@ -52,7 +52,7 @@ impl Answer<'_> {
             // The refusal that follows says it.
             Answer::Run(_, _, _, true) => return String::new(),
             Answer::Run(file, accepted, _, false) => format!("{}: {}", plain(file), words::events(*accepted)),
-            Answer::Accepted(network, event, _, tally) => words::accepted(network, event, tally),
+            Answer::Accepted(network, event, _, receivers) => words::accepted(network, event, *receivers),
             Answer::Refusal(_, said) | Answer::Said(said) | Answer::Note(said) => said.to_string(),
             Answer::Tally(tally) => words::tally(tally),
             Answer::Drain(budget, drained) => words::drained(*budget, drained),
@@ -63,9 +63,10 @@ impl Answer<'_> {
 
     fn object(&self) -> Object {
         match self {
-            Answer::Accepted(_, event, place, tally) => {
+            Answer::Accepted(_, event, place, receivers) => {
                 let object = Object::of_kind("event").number("place", *place as u64);
-                object.words("event", &event.to_string()).number("deliveries", tally.deliveries)
+                let object = object.words("event", &event.to_string());
+                object.number("deliveries", receivers.len() as u64).set("receivers", *receivers)
             }
             Answer::Refusal(refusal, said) => refused(refusal, said),
             Answer::Network(network) => {

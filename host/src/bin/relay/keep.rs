@@ -5,6 +5,7 @@ use crate::pieces::quoted;
 use crate::session::Trouble;
 use crate::{files, words};
 use relay_host::fault;
+use relay_host::text::plain;
 use relay_host::{Message, Network, Number, Set, Table};
 
 /// The size of a state, and of a state with its table behind it.
@@ -74,6 +75,17 @@ fn had(network: &Network) -> Set<Message> {
 /// The messages for which two tables differ.
 pub fn changed(one: &Table, other: &Table) -> Set<Message> {
     Message::all().filter(|&message| one.row(message) != other.row(message)).collect()
+}
+
+/// What becomes of the table at hand when a file is loaded, with a table or without; none if that is what one expects.
+pub fn note(file: &str, at_hand: &Table, loaded: Option<&Table>) -> Option<String> {
+    match loaded.map(|table| changed(at_hand, table)) {
+        None => Some(format!("{} has no table; the one at hand stays: {}", plain(file), rows(at_hand))),
+        Some(changed) if *at_hand != Table::zero() && !changed.is_empty() => {
+            Some(format!("{}: its table has other rows for {} than before", plain(file), words::messages(changed)))
+        }
+        Some(_) => None,
+    }
 }
 
 /// A table in words.

@@ -161,7 +161,8 @@ mod tests {
             assert!(is_json(line) && line.starts_with(&format!("{{\"kind\":\"{kind}\",")), "{line}");
         }
         documented(&text);
-        assert!(text.contains("\"place\":3,\"event\":\"forward 0 5\",\"deliveries\":1}"));
+        assert!(text.contains("\"place\":2,\"event\":\"produce 0 5\",\"deliveries\":0,\"receivers\":[]}"));
+        assert!(text.contains("\"place\":3,\"event\":\"forward 0 5\",\"deliveries\":1,\"receivers\":[1]}"));
         assert!(text.contains("\"script\":\"a \\\"script\\\"\\n\",\"line\":13,"));
     }
 

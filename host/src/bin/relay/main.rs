@@ -1,6 +1,6 @@
 //! The command-line tool: a relay network as plain text, on the proved engine. `relay --help` explains it.
 //!
-//! `pieces` takes a line apart, `line` has its words and `command` reads them, `session` does what it says, `answer` has what there is to say: `show` and
+//! `pieces` takes a line apart, `line` has its words and `command` reads them, `session` does what it says and `forward` its events, `answer` has what there is to say: `show` and
 //! `words` put it into words, `json` and `machine` into JSON. `talk` is for lines as they are typed, `encode` makes event records of
 //! a script and `drains` a drain's forwards, `explain` says what a number means and what is wrong with a state, `picture` draws,
 //! `page` plays a run in a browser, `keep` has states with their tables, `files` reads and writes, `trouble` is why something could not be done.
@@ -11,6 +11,7 @@ mod drains;
 mod encode;
 mod explain;
 mod files;
+mod forward;
 mod json;
 mod keep;
 mod line;

@@ -1,5 +1,5 @@
 //! The links of a network as a picture: SVG, drawn here, or DOT for Graphviz. With a message, each desk shows how it
-//! stands to it, by colour and in words.
+//! stands to it, by colour and in words. Right after a forward, an arrow for each delivery.
 //!
 //! `layout` says where things are, `svg` writes them; `geometry` measures.
 
@@ -9,11 +9,50 @@ mod svg;
 #[cfg(test)]
 mod tests;
 
+use crate::forward::Forward;
 use crate::words;
 use relay_host::{Desk, Message, Network, Number, Peer, Set, Table};
 use std::fmt::Write;
 
 pub use svg::{ring_area, svg};
+
+/// Arrows have a colour that nothing else has.
+const ARROW: &str = "#1155cc";
+
+/// What a picture is of.
+pub struct Subject<'a> {
+    pub network: &'a Network,
+    pub table: &'a Table,
+    /// The one that it shows; none if it shows where anything is pending.
+    pub message: Option<Message>,
+    /// What was done last, if it is a forward.
+    pub forward: Option<Forward>,
+}
+
+impl Subject<'_> {
+    /// The forward whose deliveries are drawn. A picture of a message has those of this message only.
+    fn arrows(&self) -> Option<Forward> {
+        let is_shown = |message| self.message.unwrap_or(message) == message;
+        self.forward.filter(|forward| is_shown(forward.message) && !forward.receivers.is_empty())
+    }
+
+    fn title(&self) -> String {
+        match self.message {
+            Some(message) => words::message(self.network, self.table, message),
+            None => words::overview(self.network),
+        }
+    }
+}
+
+/// What an arrow stands for, in the legend.
+fn meaning(forward: &Forward) -> String {
+    format!("message {}, delivered by the last forward", forward.message)
+}
+
+/// What an arrow stands for, in its tooltip.
+fn delivery(forward: &Forward, receiver: Peer) -> String {
+    format!("{} to {receiver}: message {}", forward.sender, forward.message)
+}
 
 /// How a desk stands to a message, or to all of them. Each has a colour of its own.
 #[derive(Clone, Copy, Debug, PartialEq, Eq)]
@@ -89,18 +128,18 @@ struct Node {
     tooltip: String,
 }
 
-fn nodes(network: &Network, table: &Table, message: Option<Message>) -> Vec<Node> {
+fn nodes(subject: &Subject) -> Vec<Node> {
     let node = |(peer, desk): (Peer, Desk)| {
-        let (look, lines) = match message {
+        let (look, lines) = match subject.message {
             Some(message) => {
-                let look = Look::to_message(&desk, table, message);
+                let look = Look::to_message(&desk, subject.table, message);
                 (look, vec![look.words().to_string()])
             }
             None => (if desk.pending.is_empty() { Quiet } else { Busy }, sets(&desk)),
         };
         Node { peer, look, lines, tooltip: tooltip(peer, &desk) }
     };
-    network.desks().map(node).collect()
+    subject.network.desks().map(node).collect()
 }
 
 /// A desk's topics, cut short, and how many messages it has; nothing for what is empty.
@@ -150,19 +189,14 @@ pub fn links(network: &Network) -> impl Iterator<Item = (Peer, Peer)> + '_ {
     })
 }
 
-fn title(network: &Network, table: &Table, message: Option<Message>) -> String {
-    match message {
-        Some(message) => words::message(network, table, message),
-        None => format!("{}, {}", words::peers(network.desks().count()), words::pending(network.pending_pairs())),
-    }
-}
-
-/// The network in Graphviz's language.
-pub fn dot(network: &Network, table: &Table, message: Option<Message>) -> String {
+/// The network in Graphviz's language. A link with a delivery begins at the sender, and has an arrow's head.
+pub fn dot(subject: &Subject) -> String {
     let mut text = String::from("graph network {\n");
-    let _ = writeln!(text, "    label=\"{}\";", title(network, table, message));
+    let arrows = subject.arrows();
+    let legend = arrows.map(|forward| format!("\\narrow: {}", meaning(&forward)));
+    let _ = writeln!(text, "    label=\"{}{}\";", subject.title(), legend.unwrap_or_default());
     text += "    node [shape=circle, style=filled, fontname=\"sans-serif\"];\n";
-    for node in nodes(network, table, message) {
+    for node in nodes(subject) {
         let label = [vec![node.peer.to_string()], node.lines].concat().join("\\n");
         let colour = node.look.colour();
         let _ = writeln!(
@@ -171,8 +205,18 @@ pub fn dot(network: &Network, table: &Table, message: Option<Message>) -> String
             node.peer, node.tooltip
         );
     }
-    for (one, other) in links(network) {
-        let _ = writeln!(text, "    {one} -- {other};");
+    for (one, other) in links(subject.network) {
+        let arrow = arrows.and_then(|forward| dot_arrow(&forward, one, other));
+        let _ = writeln!(text, "    {};", arrow.unwrap_or_else(|| format!("{one} -- {other}")));
     }
     text + "}\n"
+}
+
+/// A link as an arrow; none if the forward delivered nothing along it.
+fn dot_arrow(forward: &Forward, one: Peer, other: Peer) -> Option<String> {
+    let (from, to) = [(one, other), (other, one)]
+        .into_iter()
+        .find(|(from, to)| *from == forward.sender && forward.receivers.has(*to))?;
+    let tooltip = delivery(forward, to);
+    Some(format!("{from} -- {to} [dir=forward, color=\"{ARROW}\", penwidth=3, tooltip=\"{tooltip}\"]"))
 }

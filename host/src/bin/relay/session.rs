@@ -3,10 +3,11 @@
 use crate::answer::{Answer, Form};
 use crate::command::Command;
 use crate::encode::Named;
+use crate::forward::{self, Forward};
+use crate::picture::{self, Subject};
 pub use crate::trouble::Trouble;
-use crate::{drains, files, keep, picture, words};
+use crate::{drains, files, keep, words};
 use relay_host::event::{Event, RECORD};
-use relay_host::text::plain;
 use relay_host::{Message, Network, Reason, Refusal, Row, Table, Tally};
 use std::io::Write;
 
@@ -23,6 +24,8 @@ pub struct Session {
     named: Named,
     /// Why records can't say them all, if so.
     unsaid: Option<&'static str>,
+    /// See `last`.
+    last: Option<Forward>,
     /// Tell each event?
     aloud: bool,
     /// For whom?
@@ -41,6 +44,7 @@ pub struct Standing {
     tally: Tally,
     named: Named,
     unsaid: Option<&'static str>,
+    last: Option<Forward>,
 }
 
 impl Session {
@@ -57,6 +61,7 @@ impl Session {
             tally: Tally::default(),
             named: Named::default(),
             unsaid: None,
+            last: None,
             aloud,
             form,
             expand: false,
@@ -77,6 +82,7 @@ impl Session {
             tally: self.tally,
             named: self.named.clone(),
             unsaid: self.unsaid,
+            last: self.last,
         }
     }
 
@@ -91,6 +97,7 @@ impl Session {
             tally: self.tally,
             named: self.named,
             unsaid: self.unsaid,
+            last: self.last,
         } = before;
     }
 
@@ -110,12 +117,8 @@ impl Session {
             Command::Image(None) => self.tell(Answer::Image(&self.network.image()?), out)?,
             Command::Image(Some(file)) => files::write(file, self.network.image()?.bytes())?,
             Command::Tally => self.tell(Answer::Tally(&self.tally), out)?,
-            Command::Picture(file, message) => {
-                files::write(file, picture::svg(&self.network, &self.table, *message).as_bytes())?
-            }
-            Command::Dot(file, message) => {
-                files::write(file, picture::dot(&self.network, &self.table, *message).as_bytes())?
-            }
+            Command::Picture(file, message) => files::write(file, picture::svg(&self.subject(*message)).as_bytes())?,
+            Command::Dot(file, message) => files::write(file, picture::dot(&self.subject(*message)).as_bytes())?,
             Command::Load(file, other) => self.load(file, other.as_deref(), out)?,
             Command::Save(file, other) => keep::write(&self.network, &self.table, file, other.as_deref())?,
             Command::Run(file) => self.run(file, out)?,
@@ -142,6 +145,16 @@ impl Session {
         words::message(&self.network, &self.table, message)
     }
 
+    /// The last that was done to the network, if it is a forward.
+    pub fn last(&self) -> Option<Forward> {
+        self.last
+    }
+
+    /// What a picture is of.
+    fn subject(&self, message: Option<Message>) -> Subject<'_> {
+        Subject { network: &self.network, table: &self.table, message, forward: self.last }
+    }
+
     fn accepted(&self) -> usize {
         self.records().len() / RECORD
     }
@@ -152,14 +165,15 @@ impl Session {
     }
 
     fn event(&mut self, event: &Event, out: &mut dyn Write) -> Result<(), Trouble> {
-        match self.network.apply(&self.table, event) {
-            Ok(tally) => {
+        match forward::apply(&mut self.network, &self.table, event) {
+            Ok(done) => {
                 let place = self.accepted();
                 self.records.extend(event.encode());
                 self.named.note(event);
-                self.tally += tally;
+                self.tally += done.tally();
+                self.last = done.forward();
                 if self.aloud {
-                    self.tell(Answer::Accepted(&self.network, event, place, &tally), out)?;
+                    self.tell(Answer::Accepted(&self.network, event, place, done.receivers()), out)?;
                 }
                 Ok(())
             }
@@ -215,8 +229,10 @@ impl Session {
             }
         }
         let drained = self.network.drain(&self.table, budget)?;
-        if drained.forwards > 0 && !self.expand {
-            self.unsaid = self.unsaid.or(Some("there was a drain among them, which is no event"));
+        if drained.forwards > 0 {
+            self.last = None;
+            let unsaid = (!self.expand).then_some("there was a drain among them, which is no event");
+            self.unsaid = self.unsaid.or(unsaid);
         }
         self.tell(Answer::Drain(budget, &drained), out)
     }
@@ -225,15 +241,7 @@ impl Session {
     /// was there before.
     fn load(&mut self, file: &str, other: Option<&str>, out: &mut dyn Write) -> Result<(), Trouble> {
         let (network, table) = keep::read(file, other)?;
-        let changed = table.as_ref().map(|table| keep::changed(&self.table, table));
-        let note = match changed {
-            None => Some(format!("{} has no table; the one at hand stays: {}", plain(file), keep::rows(&self.table))),
-            Some(changed) if self.table != Table::zero() && !changed.is_empty() => {
-                Some(format!("{}: its table has other rows for {} than before", plain(file), words::messages(changed)))
-            }
-            Some(_) => None,
-        };
-        if let Some(note) = note {
+        if let Some(note) = keep::note(file, &self.table, table.as_ref()) {
             self.tell(Answer::Note(&note), out)?;
         }
         let table = table.unwrap_or_else(|| self.table.clone());
@@ -255,7 +263,7 @@ impl Session {
 
     fn begin(&mut self, network: Network, table: Table) {
         (self.network, self.table, self.start) = (network, table, self.records.len());
-        (self.tally, self.named, self.unsaid) = Default::default();
+        (self.tally, self.named, self.unsaid, self.last) = Default::default();
     }
 
     /// Runs a record file as one list. A refusal's place counts in the file.
@@ -269,17 +277,12 @@ impl Session {
             }
         }
         self.tally += run.tally;
+        self.last = self.last.filter(|_| run.accepted == 0);
         self.tell(Answer::Run(file, run.accepted, &run.tally, run.refusal.is_some()), out)?;
         let Some(refusal) = run.refusal else {
             return Ok(());
         };
-        let said = match records[run.accepted * RECORD..].first_chunk() {
-            Some(record) if refusal.reason.place_of() == Some("event") => match Event::decode(record) {
-                Ok(event) => words::refused(&self.network, &self.table, &event, &refusal),
-                Err(_) => format!("refused: {refusal}; its bytes are {}", words::bytes(record)),
-            },
-            _ => format!("refused: {refusal}"),
-        };
+        let said = words::refused_run(&self.network, &self.table, &records[run.accepted * RECORD..], &refusal);
         Err(Trouble::ByEngine(refusal, format!("{file}: {said}")))
     }
 

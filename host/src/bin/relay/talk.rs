@@ -127,9 +127,9 @@ mod tests {
             "join 0 pubs 1: 1 peer present, linked to none",
             "join 1 subs 1 neighbours 0: 2 peers present, linked to 0",
             "produce 0 5: pending at 0, seen by nobody",
-            "forward 0 5: 1 delivery, pending at 1, seen by 0",
+            "forward 0 5: to 1; pending at 1, seen by 0",
             "unsubscribe 1 topics 1: peer 1 subscribes to none",
-            "forward 1 5: 0 deliveries, pending nowhere, seen by 0,1",
+            "forward 1 5: to nobody; pending nowhere, seen by 0,1",
             "leave 1: 1 peer present",
             "skip: nothing changes",
         ];

@@ -47,8 +47,8 @@ pub fn overview(network: &Network) -> String {
     format!("{}, {}", peers(network.desks().count()), pending(network.pending_pairs()))
 }
 
-/// An accepted event and what it did. The network is the one after it.
-pub fn accepted(network: &Network, event: &Event, tally: &Tally) -> String {
+/// An accepted event and what it did; of a forward, to whom it went. The network is the one after it.
+pub fn accepted(network: &Network, event: &Event, receivers: Set<Peer>) -> String {
     let present = peers(network.desks().count());
     let having = |message: &Message| {
         let (holding, seen) = network.holders(*message);
@@ -57,7 +57,7 @@ pub fn accepted(network: &Network, event: &Event, tally: &Tally) -> String {
     let did = match event {
         Event::Skip => "nothing changes".into(),
         Event::Produce(_, message) => having(message),
-        Event::Forward(_, message) => format!("{}, {}", count(tally.deliveries, "delivery"), having(message)),
+        Event::Forward(_, message) => format!("{}; {}", to(receivers), having(message)),
         Event::Subscribe(peer, _) | Event::Unsubscribe(peer, _) => {
             let subs = network.desk(*peer).map_or(Set::empty(), |desk| desk.subs);
             format!("peer {peer} subscribes to {subs}")
@@ -66,6 +66,14 @@ pub fn accepted(network: &Network, event: &Event, tally: &Tally) -> String {
         _ => present,
     };
     format!("{event}: {did}")
+}
+
+/// To whom a forward went.
+fn to(receivers: Set<Peer>) -> String {
+    if receivers.is_empty() {
+        return "to nobody".into();
+    }
+    format!("to {receivers}")
 }
 
 pub fn drained(budget: u32, drained: &Drained) -> String {
@@ -91,7 +99,7 @@ pub fn broken(line: &str, width: usize) -> String {
 }
 
 /// Bytes as pairs of hexadecimal digits.
-pub fn bytes(bytes: &[u8]) -> String {
+fn bytes(bytes: &[u8]) -> String {
     let pairs: Vec<String> = bytes.iter().map(|byte| format!("{byte:02x}")).collect();
     pairs.join(" ")
 }
@@ -118,6 +126,17 @@ pub fn refused(network: &Network, table: &Table, event: &Event, refusal: &Refusa
     match because(network, table, event, refusal.reason) {
         Some(detail) => format!("{said}; {detail}"),
         None => said,
+    }
+}
+
+/// A refused run of records, from the one at which it stopped: that one, if it is an event, or its bytes.
+pub fn refused_run(network: &Network, table: &Table, rest: &[u8], refusal: &Refusal) -> String {
+    match rest.first_chunk() {
+        Some(record) if refusal.reason.place_of() == Some("event") => match Event::decode(record) {
+            Ok(event) => refused(network, table, &event, refusal),
+            Err(_) => format!("refused: {refusal}; its bytes are {}", bytes(record)),
+        },
+        _ => format!("refused: {refusal}"),
     }
 }
 

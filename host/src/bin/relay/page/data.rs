@@ -1,8 +1,9 @@
 //! The steps of a page as JSON: of each the desks and rows that differ from the step before, and once for all where desks and links
 //! are drawn, on the ring of the pictures.
 
-use super::steps::{Delivery, Step};
+use super::steps::Step;
 use crate::answer::peer_in_short;
+use crate::forward::Forward;
 use crate::json::{quoted, Object};
 use crate::picture::geometry::{Area, Place};
 use crate::picture::layout::{link, scaled_spots, Anchor, Spot, LETTERS, LINE, RADIUS};
@@ -86,6 +87,12 @@ fn curves(steps: &[Step], peers: &[Peer], spots: &[Spot]) -> Vec<String> {
     linked.into_iter().filter_map(curve).collect()
 }
 
+/// Each delivery of a forward: its two desks, and the message.
+fn deliveries(forward: &Forward) -> impl Iterator<Item = String> + '_ {
+    let Forward { sender, message, receivers } = forward;
+    receivers.members().map(move |receiver| format!("[{sender},{receiver},{message}]"))
+}
+
 /// A step, with what differs from the one before. The first one's desks and rows are those that aren't blank.
 pub fn step(before: Option<&Step>, after: &Step) -> String {
     let old = |peer| before.and_then(|before| before.network.desk(peer));
@@ -101,10 +108,9 @@ pub fn step(before: Option<&Step>, after: &Step) -> String {
     };
     let rows = Message::all().filter(is_new);
     let rows = rows.map(|message| format!("[{message},{},{}]", row(message).topic, row(message).origin));
-    let delivered = |Delivery { from, to, message }: &Delivery| format!("[{from},{to},{message}]");
     let object = Object::new().number("line", after.line as u64).words("source", &after.source);
     let object = object.list("said", after.said.iter().map(|said| quoted(said))).words("text", &after.text);
     let object = object.flag("refused", after.refused).number("round", after.round as u64);
-    let object = object.list("deliveries", after.deliveries.iter().map(delivered));
+    let object = object.list("deliveries", after.forwards.iter().flat_map(deliveries));
     object.list("desks", desks).list("rows", rows).end()
 }

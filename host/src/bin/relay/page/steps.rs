@@ -1,22 +1,15 @@
 //! A run as the steps of a page. Each step has the state that the engine left, and who got what on the way there.
 
 use crate::command::Command;
+use crate::forward::{self, Forward};
 use crate::session::{Session, Standing, Trouble};
 use crate::{drains, files, words};
 use relay_host::event::decode_all;
-use relay_host::{Event, Message, Network, Peer, Table};
+use relay_host::{Network, Table, Tally};
 
 /// A page has room for so many steps, the start among them, and for so many bytes of states.
 pub const MOST_STEPS: usize = 5000;
 pub const MOST_BYTES: usize = 16_000_000;
-
-/// A message that a desk got by a forward.
-#[derive(Clone, Copy, Debug, PartialEq, Eq)]
-pub struct Delivery {
-    pub from: Peer,
-    pub to: Peer,
-    pub message: Message,
-}
 
 pub struct Step {
     /// The line of the script, and what stands there; 0 and nothing at the start.
@@ -30,7 +23,8 @@ pub struct Step {
     pub refused: bool,
     /// The round of a drain; otherwise 0.
     pub round: usize,
-    pub deliveries: Vec<Delivery>,
+    /// The forwards on the way there.
+    pub forwards: Vec<Forward>,
     pub network: Network,
     pub table: Table,
 }
@@ -76,7 +70,7 @@ impl Recorder {
             (Err(_), _) => {}
             (_, Command::Say(said)) => self.said.extend((!said.is_empty()).then(|| said.clone())),
             (_, Command::Drain(budget)) => self.rounds(before, *budget, text)?,
-            (_, Command::Event(event)) => self.event(&before.network, event, text)?,
+            (_, Command::Event(_)) => self.event(text)?,
             (_, Command::Refused(..)) => self.keep(Step { refused: true, ..self.step(text) })?,
             (_, Command::Table(message, _)) => self.keep(self.step(self.session.message(*message)))?,
             (_, Command::Load(..) | Command::Blank) => {
@@ -97,7 +91,7 @@ impl Recorder {
     /// A step to how the session stands now.
     fn step(&self, text: String) -> Step {
         let Standing { network, table, .. } = self.session.standing();
-        let (said, deliveries) = (Vec::new(), Vec::new());
+        let (said, forwards) = (Vec::new(), Vec::new());
         Step {
             line: self.line,
             source: self.source.clone(),
@@ -105,7 +99,7 @@ impl Recorder {
             text,
             refused: false,
             round: 0,
-            deliveries,
+            forwards,
             network,
             table,
         }
@@ -122,23 +116,21 @@ impl Recorder {
         Ok(())
     }
 
-    fn event(&mut self, before: &Network, event: &Event, text: String) -> Result<(), Trouble> {
-        let step = self.step(text);
-        let deliveries = deliveries(before, event, &step.network);
-        self.keep(Step { deliveries, ..step })
+    fn event(&mut self, text: String) -> Result<(), Trouble> {
+        let forwards = self.session.last().into_iter().collect();
+        self.keep(Step { forwards, ..self.step(text) })
     }
 
     /// The accepted events of a record file, one after another.
     fn records(&mut self, before: Standing, file: &str) -> Result<(), Trouble> {
         let mut network = before.network;
         for event in decode_all(&files::read(file)?).0 {
-            let old = network.clone();
-            let Ok(tally) = network.apply(&before.table, &event) else {
+            let Ok(done) = forward::apply(&mut network, &before.table, &event) else {
                 break;
             };
-            let text = format!("{file}: {}", words::accepted(&network, &event, &tally));
-            let deliveries = deliveries(&old, &event, &network);
-            self.keep(Step { deliveries, network: network.clone(), ..self.step(text) })?;
+            let text = format!("{file}: {}", words::accepted(&network, &event, done.receivers()));
+            let forwards = done.forward().into_iter().collect();
+            self.keep(Step { forwards, network: network.clone(), ..self.step(text) })?;
         }
         Ok(())
     }
@@ -151,29 +143,21 @@ impl Recorder {
             return self.keep(self.step(text));
         }
         for (place, round) in rounds.iter().enumerate() {
-            let mut deliveries = Vec::new();
-            for forward in round {
-                let old = network.clone();
-                network.apply(&before.table, forward)?;
-                deliveries.extend(self::deliveries(&old, forward, &network));
+            let mut forwards = Vec::new();
+            let mut tally = Tally::default();
+            for event in round {
+                let done = forward::apply(&mut network, &before.table, event)?;
+                forwards.extend(done.forward());
+                tally += done.tally();
             }
-            let forwards = words::count(round.len() as u64, "forward");
-            let delivered = words::count(deliveries.len() as u64, "delivery");
-            let mut said = format!("round {} of a drain: {forwards}, {delivered}", place + 1);
+            let made = words::count(tally.forwards, "forward");
+            let delivered = words::count(tally.deliveries, "delivery");
+            let mut said = format!("round {} of a drain: {made}, {delivered}", place + 1);
             if place + 1 == rounds.len() {
                 said = format!("{said}\n{text}");
             }
-            self.keep(Step { round: place + 1, deliveries, network: network.clone(), ..self.step(said) })?;
+            self.keep(Step { round: place + 1, forwards, network: network.clone(), ..self.step(said) })?;
         }
         Ok(())
     }
-}
-
-/// Who got the message of a forward: those that hold it after it and didn't before. The engine answers their number only.
-pub fn deliveries(before: &Network, event: &Event, after: &Network) -> Vec<Delivery> {
-    let &Event::Forward(from, message) = event else {
-        return Vec::new();
-    };
-    let new = after.holders(message).0.without(before.holders(message).0);
-    new.members().map(|to| Delivery { from, to, message }).collect()
 }

@@ -1,11 +1,11 @@
 //! What stands in a page is what the engine made.
 
-use super::steps::{deliveries, MOST_STEPS};
+use super::steps::MOST_STEPS;
 use super::*;
 use crate::answer::peer_in_short;
 use crate::command::Command;
 use crate::json::reader::is_json;
-use relay_host::{Event, Network, Number, Table};
+use relay_host::{Event, Network, Table};
 use std::collections::BTreeMap;
 
 /// Two messages that drain together, one of them by a longer way; a leave and a join of the same number.
@@ -78,11 +78,10 @@ fn every_step_says_what_happened() {
 #[test]
 fn deliveries_have_both_ends_and_the_message() {
     let steps = steps(LINES);
-    let numbers = |step: &Step| -> Vec<(u8, u8, u8)> {
-        step.deliveries.iter().map(|one| (one.from.get(), one.to.get(), one.message.get())).collect()
-    };
-    let rounds: Vec<_> = steps.iter().filter(|step| step.round > 0).map(numbers).collect();
-    assert_eq!(rounds, [vec![(0, 1, 5), (3, 2, 9)], vec![(1, 2, 5)], vec![(2, 3, 5)], vec![]]);
+    let told = told_deliveries(&steps);
+    let rounds: Vec<&str> =
+        steps.iter().zip(&told).filter(|(step, _)| step.round > 0).map(|(_, told)| &told[..]).collect();
+    assert_eq!(rounds, ["[0,1,5],[3,2,9]", "[1,2,5]", "[2,3,5]", ""]);
 }
 
 /// Desk 2 holds the message already when desk 1 forwards it.
@@ -95,17 +94,32 @@ forward 0 5
 forward 1 5";
 
 #[test]
-fn deliveries_are_as_many_as_the_engine_counts() {
-    let steps = steps(SQUARE);
-    assert_eq!(steps.iter().map(|step| step.deliveries.len()).collect::<Vec<_>>(), [0, 0, 0, 0, 0, 0, 2, 1]);
-    let before = &steps[5];
-    let mut network = before.network.clone();
-    for event in crate::drains::forwards(&network, &before.table, 2048).unwrap() {
-        let old = network.clone();
-        let counted = network.apply(&before.table, &event).unwrap().deliveries;
-        assert_eq!(deliveries(&old, &event, &network).len() as u64, counted, "{event}");
+fn every_forward_has_the_engine_s_receivers() {
+    let steps = steps(&format!("{SQUARE}\njoin 4 subs 0 neighbours 2\ndrain"));
+    assert_eq!(told_deliveries(&steps)[5..], ["", "[0,1,5],[0,2,5]", "[1,3,5]", "", "[2,4,5]", ""]);
+    assert_eq!(steps[7].text, "forward 1 5: to 3; pending at 2,3, seen by 0,1");
+    for pair in steps.windows(2).filter(|pair| !pair[1].forwards.is_empty()) {
+        let mut network = pair[0].network.clone();
+        for forward in &pair[1].forwards {
+            let (before, _) = network.holders(forward.message);
+            let event = Event::Forward(forward.sender, forward.message);
+            let counted = network.apply(&pair[0].table, &event).unwrap().deliveries;
+            let (after, _) = network.holders(forward.message);
+            assert_eq!(
+                (forward.receivers, forward.receivers.len() as u64),
+                (after.without(before), counted),
+                "{event}"
+            );
+        }
+        assert!(network == pair[1].network, "{}", pair[1].text);
     }
-    assert!(deliveries(&Network::blank(), &Event::Skip, &network).is_empty());
+}
+
+/// The deliveries that a page's data say, step by step.
+fn told_deliveries(steps: &[Step]) -> Vec<String> {
+    let json = data::json("a script", steps);
+    let parts = json.split("\"deliveries\":[").skip(1);
+    parts.map(|part| part.split_once("],\"desks\":").unwrap().0.into()).collect()
 }
 
 /// The states that a page's data say, from step to step, each desk as its JSON.

@@ -82,12 +82,36 @@ impl Curve {
     /// So many pieces are measured.
     const PIECES: usize = 64;
 
+    /// A part of it begins and ends at one of so many places.
+    const CUTS: u32 = 1024;
+
     /// Places along the curve, both ends among them.
     pub fn places(self) -> impl Iterator<Item = Place> {
-        (0..=Curve::PIECES).map(move |piece| {
-            let share = piece as f64 / Curve::PIECES as f64;
-            self.from.towards(self.bend, share).towards(self.bend.towards(self.to, share), share)
-        })
+        (0..=Curve::PIECES).map(move |piece| self.at(piece as f64 / Curve::PIECES as f64))
+    }
+
+    fn at(self, share: f64) -> Place {
+        self.between(share, share)
+    }
+
+    /// What bends the part of the curve between two shares of the way; with the same share twice, the place there.
+    fn between(self, one: f64, other: f64) -> Place {
+        self.from.towards(self.bend, one).towards(self.bend.towards(self.to, one), other)
+    }
+
+    /// The part of the curve that is at least so far from its start, and so far from its end.
+    pub fn cut(self, from_start: f64, from_end: f64) -> Curve {
+        let shares = || (0..=Curve::CUTS).map(|piece| piece as f64 / Curve::CUTS as f64);
+        let first = shares().find(|&share| self.at(share).distance(self.from) >= from_start).unwrap_or(0.0);
+        let last = shares().rev().find(|&share| self.at(share).distance(self.to) >= from_end).unwrap_or(1.0);
+        Curve { from: self.at(first), bend: self.between(first, last), to: self.at(last) }
+    }
+
+    /// Where the two strokes of an arrow's head begin that meet at the curve's end: so far back, and half as far to either side.
+    pub fn barbs(self, back: f64) -> [Place; 2] {
+        let length = self.bend.distance(self.to);
+        let (x, y) = (back * (self.to.x - self.bend.x) / length, back * (self.to.y - self.bend.y) / length);
+        [0.5, -0.5].map(|side| Place { x: self.to.x - x - side * y, y: self.to.y - y + side * x })
     }
 }
 
@@ -127,6 +151,25 @@ mod tests {
         let places: Vec<Place> = curve.places().collect();
         assert_eq!((places[0], places[Curve::PIECES]), (curve.from, curve.to));
         assert_eq!(places[Curve::PIECES / 2], Place { x: 4.0, y: 4.0 });
+    }
+
+    #[test]
+    fn a_curve_is_cut_near_its_ends_and_stays_the_same_curve() {
+        let curve = Curve { from: ORIGIN, bend: Place { x: 40.0, y: 80.0 }, to: Place { x: 80.0, y: 0.0 } };
+        let part = curve.cut(20.0, 30.0);
+        let (start, end) = (part.from.distance(curve.from), part.to.distance(curve.to));
+        assert!((20.0..20.3).contains(&start) && (30.0..30.3).contains(&end), "{start} {end}");
+        for place in part.places() {
+            let near =
+                (0..=4000).map(|piece| curve.at(f64::from(piece) / 4000.0).distance(place)).fold(f64::MAX, f64::min);
+            assert!(near < 0.1, "{place:?} is {near} beside the curve");
+        }
+    }
+
+    #[test]
+    fn barbs_lie_behind_the_end_on_both_sides() {
+        let up = Curve { from: ORIGIN, bend: Place { x: 0.0, y: -5.0 }, to: Place { x: 0.0, y: -20.0 } };
+        assert_eq!(up.barbs(10.0), [Place { x: 5.0, y: -10.0 }, Place { x: -5.0, y: -10.0 }]);
     }
 
     #[test]

@@ -1,9 +1,10 @@
 //! A picture as SVG. What is too long for it is in tooltips, which a browser shows where the pointer rests.
 
-use super::geometry::{width, Area, Place};
+use super::geometry::{tenths, width, Area, Curve, Place};
 use super::layout::{link, spots, Anchor, Label, Spot, LETTERS, LINE, RADIUS};
-use super::{links, nodes, title, Look, Node};
-use relay_host::{Message, Network, Table};
+use super::{delivery, links, meaning, nodes, Look, Node, Subject, ARROW};
+use crate::forward::Forward;
+use relay_host::{Network, Peer};
 
 const BACKGROUND: &str = "#ffffff";
 const LINK: &str = "#666666";
@@ -13,42 +14,49 @@ const MARGIN: f64 = 16.0;
 const SWATCH: f64 = 14.0;
 const ENTRY: f64 = 20.0;
 
+/// So far arrows keep from the desk that they come from and from the one that they point at; and the length of their heads.
+const LEAVING: f64 = 2.0;
+const REACHING: f64 = 4.0;
+const HEAD: f64 = 10.0;
+
 /// With more links than this they are drawn thin.
 const MANY: usize = 64;
 
-/// A line of the legend: a colour, a link or nothing, and what it stands for.
+/// A line of the legend: a colour, a link, an arrow or nothing, and what it stands for.
 struct Entry {
     sign: Sign,
-    words: &'static str,
+    words: String,
 }
 
 enum Sign {
     Colour(&'static str),
     Link,
+    Arrow,
     Nothing,
 }
 
-fn legend(message: Option<Message>) -> Vec<Entry> {
-    let looks = if message.is_some() { &Look::OF_A_MESSAGE[..] } else { &Look::OF_A_NETWORK[..] };
-    let colour = |look: &Look| Entry { sign: Sign::Colour(look.colour()), words: look.meaning() };
-    let mut entries: Vec<Entry> = looks.iter().map(colour).collect();
-    entries.push(Entry { sign: Sign::Link, words: "a link between two neighbours" });
-    if message.is_none() {
-        entries.push(Entry { sign: Sign::Nothing, words: "subs, pubs: topics subscribed to, topics published" });
-        entries.push(Entry { sign: Sign::Nothing, words: "+3: three more; a desk's tooltip has them all" });
+fn legend(subject: &Subject) -> Vec<Entry> {
+    let looks = if subject.message.is_some() { &Look::OF_A_MESSAGE[..] } else { &Look::OF_A_NETWORK[..] };
+    let entry = |sign, words: &str| Entry { sign, words: words.into() };
+    let mut entries: Vec<Entry> = looks.iter().map(|look| entry(Sign::Colour(look.colour()), look.meaning())).collect();
+    entries.push(entry(Sign::Link, "a link between two neighbours"));
+    entries.extend(subject.arrows().map(|forward| entry(Sign::Arrow, &meaning(&forward))));
+    if subject.message.is_none() {
+        entries.push(entry(Sign::Nothing, "subs, pubs: topics subscribed to, topics published"));
+        entries.push(entry(Sign::Nothing, "+3: three more; a desk's tooltip has them all"));
     }
     entries
 }
 
 /// The network as an SVG picture: title, ring and legend, one under the other.
-pub fn svg(network: &Network, table: &Table, message: Option<Message>) -> String {
-    let nodes = nodes(network, table, message);
+pub fn svg(subject: &Subject) -> String {
+    let nodes = nodes(subject);
     let words: Vec<Vec<String>> = nodes.iter().map(|node| node.lines.clone()).collect();
     let spots = spots(&words);
-    let title = title(network, table, message);
-    let legend = legend(message);
+    let title = subject.title();
+    let legend = legend(subject);
     let ring = ring_area(&spots);
-    let wide = legend.iter().map(|entry| width(entry.words, LETTERS)).fold(0.0, f64::max) + SWATCH + 8.0;
+    let wide = legend.iter().map(|entry| width(&entry.words, LETTERS)).fold(0.0, f64::max) + SWATCH + 8.0;
     let half = (width(&title, LETTERS).max(wide) / 2.0).max(ring.right).max(-ring.left);
     let frame = Area {
         left: -half,
@@ -58,7 +66,8 @@ pub fn svg(network: &Network, table: &Table, message: Option<Message>) -> String
     };
     let mut text = opening(frame.grown(MARGIN), &title);
     text += &words_at(Place { x: 0.0, y: frame.top + LINE - 3.0 }, Anchor::Middle, &title);
-    text += &drawn_links(network, &nodes, &spots);
+    text += &drawn_links(subject.network, &nodes, &spots);
+    text += &subject.arrows().map_or(String::new(), |forward| drawn_arrows(&forward, &nodes, &spots));
     for (node, spot) in nodes.iter().zip(&spots) {
         text += &drawn(node, spot);
     }
@@ -88,18 +97,39 @@ fn opening(frame: Area, title: &str) -> String {
     )
 }
 
+/// The link of two desks that are present.
+fn linked(nodes: &[Node], spots: &[Spot], one: Peer, other: Peer) -> Curve {
+    let place = |peer| nodes.iter().position(|node| node.peer == peer).expect("both ends of a link are present");
+    link(spots, place(one), place(other))
+}
+
 /// Every link, with its two desks as tooltip.
 fn drawn_links(network: &Network, nodes: &[Node], spots: &[Spot]) -> String {
-    let place = |peer| nodes.iter().position(|node| node.peer == peer).expect("both ends of a link are present");
     let links: Vec<_> = links(network).collect();
     let (thick, opaque) = if links.len() > MANY { (1, 0.6) } else { (2, 1.0) };
     let start = format!("<g fill=\"none\" stroke=\"{LINK}\" stroke-width=\"{thick}\" stroke-opacity=\"{opaque}\">\n");
     let drawn = links.into_iter().map(|(one, other)| {
-        let curve = link(spots, place(one), place(other));
-        let (from, bend, to) = (curve.from, curve.bend, curve.to);
+        let Curve { from, bend, to } = linked(nodes, spots, one, other);
         format!(
             "<path d=\"M {} {} Q {} {} {} {}\"><title>{one} - {other}</title></path>\n",
             from.x, from.y, bend.x, bend.y, to.x, to.y
+        )
+    });
+    start + &drawn.collect::<String>() + "</g>\n"
+}
+
+/// An arrow for each delivery of a forward, along the link from edge to edge of the desks, with both and the message as tooltip.
+fn drawn_arrows(forward: &Forward, nodes: &[Node], spots: &[Spot]) -> String {
+    let start = format!("<g fill=\"none\" stroke=\"{ARROW}\" stroke-width=\"3\" stroke-linejoin=\"round\">\n");
+    let drawn = forward.receivers.members().map(|receiver| {
+        let link = linked(nodes, spots, forward.sender, receiver);
+        let arrow = link.cut(RADIUS + LEAVING, RADIUS + REACHING);
+        let [one, other] = arrow.barbs(HEAD);
+        let [from, bend, to, one, other] =
+            [arrow.from, arrow.bend, arrow.to, one, other].map(|Place { x, y }| format!("{} {}", tenths(x), tenths(y)));
+        format!(
+            "<path class=\"arrow\" d=\"M {from} Q {bend} {to} M {one} L {to} L {other}\"><title>{}</title></path>\n",
+            delivery(forward, receiver)
         )
     });
     start + &drawn.collect::<String>() + "</g>\n"
@@ -143,7 +173,14 @@ fn explained(entry: &Entry, Place { x, y }: Place) -> String {
         Sign::Link => format!(
             "<line x1=\"{x}\" y1=\"{middle}\" x2=\"{right}\" y2=\"{middle}\" stroke=\"{LINK}\" stroke-width=\"2\"/>\n"
         ),
+        Sign::Arrow => format!(
+            "<polyline points=\"{x},{middle} {right},{middle} {0},{1} {right},{middle} {0},{2}\" fill=\"none\" \
+             stroke=\"{ARROW}\" stroke-width=\"3\" stroke-linejoin=\"round\"/>\n",
+            right - 6.0,
+            middle - 3.0,
+            middle + 3.0
+        ),
         Sign::Nothing => String::new(),
     };
-    sign + &words_at(Place { x: right + 8.0, y: y + SWATCH - 3.0 }, Anchor::Start, entry.words)
+    sign + &words_at(Place { x: right + 8.0, y: y + SWATCH - 3.0 }, Anchor::Start, &entry.words)
 }

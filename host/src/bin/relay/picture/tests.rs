@@ -1,7 +1,10 @@
 //! Pictures as they are written, read back and measured.
 
+mod arrows;
+
 use super::geometry::{width, Area, Curve, Place};
 use super::*;
+use crate::forward::apply;
 use relay_host::Event;
 
 /// A picture read back: every element stands on a line of its own.
@@ -9,8 +12,16 @@ struct Read {
     frame: Area,
     discs: Vec<Place>,
     links: Vec<Curve>,
+    arrows: Vec<Arrow>,
     texts: Vec<(String, Area)>,
     swatches: Vec<Area>,
+}
+
+/// An arrow: its line, where the strokes of its head begin, and its tooltip.
+struct Arrow {
+    line: Curve,
+    barbs: [Place; 2],
+    tooltip: String,
 }
 
 const RADIUS: f64 = 24.0;
@@ -26,6 +37,11 @@ fn number(line: &str, name: &str) -> f64 {
 
 fn numbers(text: &str) -> Vec<f64> {
     text.split(' ').filter_map(|word| word.parse().ok()).collect()
+}
+
+/// The places of a path, one after another.
+fn places_of(line: &str) -> Vec<Place> {
+    numbers(attribute(line, "d").unwrap()).chunks(2).map(|pair| Place { x: pair[0], y: pair[1] }).collect()
 }
 
 fn box_of(line: &str) -> Area {
@@ -51,16 +67,22 @@ fn read(svg: &str) -> Read {
     let head = numbers(attribute(svg, "viewBox").unwrap());
     let frame = Area { left: head[0], top: head[1], right: head[0] + head[2], bottom: head[1] + head[3] };
     let place = |line| Place { x: number(line, "cx"), y: number(line, "cy") };
-    let curve = |line| match numbers(attribute(line, "d").unwrap())[..] {
-        [x, y, bend_x, bend_y, to_x, to_y] => {
-            Curve { from: Place { x, y }, bend: Place { x: bend_x, y: bend_y }, to: Place { x: to_x, y: to_y } }
+    let curve = |line| match places_of(line)[..] {
+        [from, bend, to] => Curve { from, bend, to },
+        _ => panic!("{line}"),
+    };
+    let arrow = |line: &str| match places_of(line)[..] {
+        [from, bend, to, one, tip, other] if tip == to => {
+            let tooltip = line.split(['<', '>']).nth(4).unwrap().into();
+            Arrow { line: Curve { from, bend, to }, barbs: [one, other], tooltip }
         }
         _ => panic!("{line}"),
     };
     Read {
         frame,
         discs: lines("<circle").map(place).collect(),
-        links: lines("<path").map(curve).collect(),
+        links: lines("<path d").map(curve).collect(),
+        arrows: lines("<path class=\"arrow\"").map(arrow).collect(),
         texts: lines("<text").map(text_of).collect(),
         swatches: lines("<rect").skip(1).map(box_of).collect(),
     }
@@ -70,7 +92,8 @@ fn inside(outer: Area, inner: Area) -> bool {
     outer.with(inner) == outer
 }
 
-/// Nothing is outside the frame, no words stand on words, on a desk or on a link, and no link runs behind a third desk.
+/// Nothing is outside the frame, no words stand on words, on a desk, on a link or on an arrow, and no link runs behind a third
+/// desk.
 fn measure(svg: &str) -> Read {
     let read = read(svg);
     let words: Vec<&(String, Area)> = read.texts.iter().filter(|(text, _)| text.parse::<u8>().is_err()).collect();
@@ -85,8 +108,9 @@ fn measure(svg: &str) -> Read {
         for disc in &read.discs {
             assert!(area.distance(*disc) > RADIUS + 3.0, "{text} stands on a desk");
         }
-        for place in read.links.iter().flat_map(|link| link.places()) {
-            assert!(area.distance(place) > 1.0, "a link runs through {text}");
+        let arrows = read.arrows.iter().flat_map(|arrow| arrow.line.places().chain(arrow.barbs));
+        for place in read.links.iter().flat_map(|link| link.places()).chain(arrows) {
+            assert!(area.distance(place) > 1.0, "a link or an arrow runs through {text}");
         }
     }
     for (place, disc) in read.discs.iter().enumerate() {
@@ -103,6 +127,14 @@ fn measure(svg: &str) -> Read {
     read
 }
 
+fn svg_of(network: &Network, message: Option<Message>) -> String {
+    svg(&Subject { network, table: &Table::zero(), message, forward: None })
+}
+
+fn dot_of(network: &Network, message: Option<Message>) -> String {
+    dot(&Subject { network, table: &Table::zero(), message, forward: None })
+}
+
 fn after(lines: &[String]) -> Network {
     let mut network = Network::blank();
     let events: Vec<Event> = lines.iter().map(|line| line.parse().unwrap()).collect();
@@ -110,9 +142,17 @@ fn after(lines: &[String]) -> Network {
     network
 }
 
-fn square() -> Network {
+/// A network after one more forward, and that forward.
+fn forwarded(mut network: Network, line: &str) -> (Network, Forward) {
+    let done = apply(&mut network, &Table::zero(), &line.parse().unwrap()).unwrap();
+    (network, done.forward().expect("a forward"))
+}
+
+/// Desk 0 has passed message 5 to desk 7; desk 9 doesn't subscribe.
+fn square() -> (Network, Forward) {
     let joins = ["join 0 pubs 0", "join 7 subs 0 neighbours 0", "join 9 neighbours 0", "join 31 subs 0 neighbours 7,9"];
-    after(&joins.iter().chain(&["produce 0 5", "forward 0 5"]).map(|line| line.to_string()).collect::<Vec<String>>())
+    let lines: Vec<String> = joins.into_iter().chain(["produce 0 5"]).map(String::from).collect();
+    forwarded(after(&lines), "forward 0 5")
 }
 
 /// So many desks, each linked to all of those before it that `linked` says, with such sets of topics.
@@ -129,9 +169,9 @@ const EVEN: &str = "0,2,4,6,8,10,12,14,16,18,20,22,24,26,28,30";
 
 #[test]
 fn every_peer_and_link_is_drawn_once() {
-    let read = measure(&svg(&square(), &Table::zero(), None));
+    let read = measure(&svg_of(&square().0, None));
     assert_eq!((read.discs.len(), read.links.len()), (4, 4));
-    let dot = dot(&square(), &Table::zero(), None);
+    let dot = dot_of(&square().0, None);
     assert_eq!((dot.matches("fillcolor").count(), dot.matches(" -- ").count()), (4, 4));
 }
 
@@ -140,7 +180,7 @@ fn any_number_of_desks_fully_linked_can_be_read() {
     for count in 0..=32 {
         let network = desks(count, "0", |_, _| true);
         let message = Message::new(5).filter(|_| count % 2 == 0);
-        let read = measure(&svg(&network, &Table::zero(), message));
+        let read = measure(&svg_of(&network, message));
         assert_eq!((read.discs.len(), read.links.len()), (count, count * count.saturating_sub(1) / 2));
     }
 }
@@ -156,7 +196,7 @@ fn many_topics_and_messages_are_cut_short_and_told_in_full_by_the_tooltip() {
         }
     }
     assert!(network.drain(&Table::zero(), 44).is_ok());
-    let svg = svg(&network, &Table::zero(), None);
+    let svg = svg_of(&network, None);
     let read = measure(&svg);
     for (line, desks) in
         [("subs 0,2,4,+13", 32), ("pubs 0,2,4,+13", 32), ("44 pending", 31), ("20 seen", 31), ("64 seen", 1)]
@@ -172,10 +212,10 @@ fn a_long_title_has_room() {
     let star = [10, 12, 20, 22, 24].map(|peer| format!("join {peer} subs 0 neighbours 0"));
     let forwards = ["produce 0 5", "forward 0 5", "forward 10 5", "forward 12 5"].map(String::from);
     let network = after(&[&["join 0 pubs 0".to_string()], &star[..], &forwards[..]].concat());
-    let read = measure(&svg(&network, &Table::zero(), Message::new(5)));
+    let read = measure(&svg_of(&network, Message::new(5)));
     let title = "message 5 (topic 0, origin 0): pending at 20,22,24, seen by 0,10,12";
     assert!(read.texts.iter().any(|(text, area)| text == title && area.width() > read.frame.width() - 50.0));
-    measure(&svg(&desks(1, "0", |_, _| false), &Table::zero(), Message::new(5)));
+    measure(&svg_of(&desks(1, "0", |_, _| false), Message::new(5)));
 }
 
 #[test]
@@ -183,10 +223,12 @@ fn a_colour_has_one_meaning_and_the_legend_says_it() {
     let all: Vec<Look> = [&Look::OF_A_MESSAGE[..], &Look::OF_A_NETWORK[..]].concat();
     for (place, look) in all.iter().enumerate() {
         let others = all[place + 1..].iter().flat_map(|other| [other.colour(), other.meaning()]);
-        assert!(others.chain(["#ffffff", "#666666"]).all(|other| other != look.colour() && other != look.meaning()));
+        assert!(others
+            .chain(["#ffffff", "#666666", ARROW])
+            .all(|other| other != look.colour() && other != look.meaning()));
     }
     for (message, looks) in [(Message::new(5), &Look::OF_A_MESSAGE[..]), (None, &Look::OF_A_NETWORK[..])] {
-        let svg = svg(&square(), &Table::zero(), message);
+        let svg = svg_of(&square().0, message);
         let lines: Vec<&str> = svg.lines().collect();
         for look in looks {
             let colour = format!("height=\"14\" fill=\"{}\"", look.colour());
@@ -201,7 +243,7 @@ fn a_colour_has_one_meaning_and_the_legend_says_it() {
 
 #[test]
 fn a_message_colours_the_peers() {
-    let dot = dot(&square(), &Table::zero(), Message::new(5));
+    let dot = dot_of(&square().0, Message::new(5));
     for line in [
         "label=\"message 5 (topic 0, origin 0): pending at 7, seen by 0\";",
         "0 [label=\"0\\nhas seen it\", fillcolor=\"#93c47d\", tooltip=",
@@ -215,7 +257,7 @@ fn a_message_colours_the_peers() {
 
 #[test]
 fn a_blank_network_is_a_picture_too() {
-    let svg = svg(&Network::blank(), &Table::zero(), None);
+    let svg = svg_of(&Network::blank(), None);
     measure(&svg);
     assert!(svg.contains("0 peers present, nothing pending") && !svg.contains("NaN"));
 }

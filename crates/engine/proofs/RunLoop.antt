@@ -3,7 +3,7 @@ use mathlib.Core.Path.{_≡_, sym, ap, _∙_}
 use mathlib.Core.List.{List}
 use Prim.Native.Nat.{ℕ, suc, _+_, _-_, _*_, _^_, _≤_, _<_}
 use native.Mathlib.Omega.{arith}
-use Rattle.sets.specs.laws.Sizes.{size-le}
+use Rattle.sets.specs.Set.{size}
 use Rattle.network.specs.declared.Network.{Network}
 use Rattle.network.specs.declared.Table.{Table}
 use Rattle.events.specs.declared.kind.Kind.{Kind}
@@ -21,16 +21,16 @@ pub record Going (ev : List ℕ) (b : Table) (count place : ℕ) (n : Network) (
   pub deliveries : t .deliveries ≤ 32 * place
 
 -- a tally grows by one event at most
-grows : (t : Tally) (kind : Kind) (to : ℕ) → to < 2 ^ 32
-    → (talliedOf t kind to .produced ≤ t .produced + 1) × (talliedOf t kind to .forwards ≤ t .forwards + 1) × (talliedOf t kind to .deliveries ≤ t .deliveries + 32)
+grows : (t : Tally) (kind : Kind) (d : ℕ) → d ≤ 32
+    → (talliedOf t kind d .produced ≤ t .produced + 1) × (talliedOf t kind d .forwards ≤ t .forwards + 1) × (talliedOf t kind d .deliveries ≤ t .deliveries + 32)
 unfolding talliedOf
-grows t Skip to h = (omega arith, omega arith, omega arith)
-grows t Produce to h = (omega arith, omega arith, omega arith)
-grows t Forward to h = (omega arith, omega arith, omega (arith, size-le 32 to h))
-grows t Subscribe to h = (omega arith, omega arith, omega arith)
-grows t Unsubscribe to h = (omega arith, omega arith, omega arith)
-grows t Leave to h = (omega arith, omega arith, omega arith)
-grows t Join to h = (omega arith, omega arith, omega arith)
+grows t Skip d h = (omega arith, omega arith, omega arith)
+grows t Produce d h = (omega arith, omega arith, omega arith)
+grows t Forward d h = (omega arith, omega arith, omega arith)
+grows t Subscribe d h = (omega arith, omega arith, omega arith)
+grows t Unsubscribe d h = (omega arith, omega arith, omega arith)
+grows t Leave d h = (omega arith, omega arith, omega arith)
+grows t Join d h = (omega arith, omega arith, omega arith)
 
 module _ (ev : List ℕ) (b : Table) (count : ℕ) where
   pub going-start : (n : Network) → Going ev b count 0 n zeroTally (runFrom count ev 0 b n zeroTally)
@@ -41,10 +41,10 @@ module _ (ev : List ℕ) (b : Table) (count : ℕ) where
 
   -- an accepted event
   pub going-on : {place : ℕ} {n : Network} {t : Tally} {f : Final} → Going ev b count place n t f → place < count → (n′ : Network) (t′ : Tally)
-      → outcomeAt ev place b n .turned .number ≡ 0 → outcomeAt ev place b n .turned .receivers < 2 ^ 32 → n′ ≡ outcomeAt ev place b n .network → t′ ≡ tallyAfter (outcomeAt ev place b n) t
+      → outcomeAt ev place b n .turned .number ≡ 0 → size (outcomeAt ev place b n .turned .receivers) ≤ 32 → n′ ≡ outcomeAt ev place b n .network → t′ ≡ tallyAfter (outcomeAt ev place b n) t
       → Going ev b count (place + 1) n′ t′ f
   going-on {place} {n} {t} {f} g h n′ t′ e few en et =
-      let grow = grows t (outcomeAt ev place b n .turned .kind) (outcomeAt ev place b n .turned .receivers) few in
+      let grow = grows t (outcomeAt ev place b n .turned .kind) (size (outcomeAt ev place b n .turned .receivers)) few in
       record {
         same =
             ap (λ (x : Network). runFrom (count - (place + 1)) ev (place + 1) b x t′) en
@@ -79,5 +79,5 @@ module _ (ev : List ℕ) (b : Table) (count : ℕ) where
       none e = omega arith
 
   -- there is room for one event more
-  pub going-room : {place : ℕ} {n : Network} {t : Tally} {f : Final} → Going ev b count place n t f → place < count → 32 * count < 2 ^ 64 → Room t
-  going-room g h c = record { produced = omega (arith, g .produced); forwards = omega (arith, g .forwards); deliveries = omega (arith, g .deliveries) }
+  pub going-room : {place : ℕ} {n : Network} {t : Tally} {f : Final} → Going ev b count place n t f → place < count → 32 * count < 2 ^ 64 → (d : ℕ) → d ≤ 32 → Room t d
+  going-room g h c d few = record { produced = omega (arith, g .produced); forwards = omega (arith, g .forwards); deliveries = omega (arith, g .deliveries) }

@@ -1,8 +1,9 @@
 -- The turns of a run's loop, by what the function that does one event answers. Assumes nothing.
 use mathlib.Core.Path.{_≡_, sym, ap, subst, _∙_}
 use mathlib.Core.List.{List}
-use Prim.Native.Nat.{ℕ, _+_, _^_, _≤_, _<_}
+use Prim.Native.Nat.{ℕ, _+_, _≤_, _<_}
 use native.Mathlib.Omega.{arith}
+use Rattle.sets.specs.Set.{size}
 use Rattle.network.specs.declared.Network.{Network}
 use Rattle.network.specs.declared.Table.{Table}
 use Rattle.events.specs.declared.Read.{Read}
@@ -35,12 +36,12 @@ module _ (ev : List ℕ) (b : Table) (count : ℕ) {place : ℕ} {n : Network} {
 
   -- an event is accepted: the run goes on
   pub ran-on : place < count → {read : Read} → read ≡ readAt ev place → (m : Network) (r : Turned) → Turn b n read m r → r .number ≡ 0
-      → r .receivers < 2 ^ 32 → (t′ : Tally) → t′ ≡ talliedOf t (r .kind) (r .receivers) → Going ev b count (place + 1) m t′ f
+      → size (r .receivers) ≤ 32 → (t′ : Tally) → t′ ≡ talliedOf t (r .kind) (size (r .receivers)) → Going ev b count (place + 1) m t′ f
   ran-on h {read} k m r u z few t′ j =
       let e : r ≡ outcomeAt ev place b n .turned = u .1 ∙ ap (λ (x : Read). turnOf b n x .turned) k in
-      going-on ev b count g h m t′ (sym (ap (λ (x : Turned). x .number) e) ∙ z) (subst (λ (x : Turned). x .receivers < 2 ^ 32) e few)
+      going-on ev b count g h m t′ (sym (ap (λ (x : Turned). x .number) e) ∙ z) (subst (λ (x : Turned). size (x .receivers) ≤ 32) e few)
       (u .0 ∙ ap (λ (x : Read). turnOf b n x .network) k)
-      (j ∙ ap (λ (x : Turned). talliedOf t (x .kind) (x .receivers)) e)
+      (j ∙ ap (λ (x : Turned). talliedOf t (x .kind) (size (x .receivers))) e)
 
   -- no event is left
   pub ran-end : count ≤ place → RunsTo (ranAt 0 0 place n) t f

@@ -36,22 +36,21 @@ tally produced forwards deliveries = record { produced = produced; forwards = fo
 abbrev pub zeroTally : Tally
 zeroTally = tally 0 0 0
 
--- there is room for one event more, which delivers to all peers at most
-pub record Room (t : Tally) : Type 0 where
+-- there is room for one event more with d deliveries
+pub record Room (t : Tally) (d : ℕ) : Type 0 where
   pub produced : t .produced + 1 < 2 ^ 64
   pub forwards : t .forwards + 1 < 2 ^ 64
-  pub deliveries : t .deliveries + 32 < 2 ^ 64
+  pub deliveries : t .deliveries + d < 2 ^ 64
 
--- "Produced and forwards are the accepted events of those kinds; deliveries is the sum of theirs": of a forward, the size of the set `to` of
--- its receivers
+-- "Produced and forwards are the accepted events of those kinds; deliveries is the sum of theirs." d: the deliveries of the event
 unfoldable pub talliedOf : Tally → Kind → ℕ → Tally
-talliedOf t Skip to = t
-talliedOf t Produce to = tally (t .produced + 1) (t .forwards) (t .deliveries)
-talliedOf t Forward to = tally (t .produced) (t .forwards + 1) (t .deliveries + size to)
-talliedOf t Subscribe to = t
-talliedOf t Unsubscribe to = t
-talliedOf t Leave to = t
-talliedOf t Join to = t
+talliedOf t Skip d = t
+talliedOf t Produce d = tally (t .produced + 1) (t .forwards) (t .deliveries)
+talliedOf t Forward d = tally (t .produced) (t .forwards + 1) (t .deliveries + d)
+talliedOf t Subscribe d = t
+talliedOf t Unsubscribe d = t
+talliedOf t Leave d = t
+talliedOf t Join d = t
 
 -- ---- one event
 
@@ -93,13 +92,13 @@ stopsAt number place t n = record { answer = answered number place 0 place; tall
 abbrev pub allDone : ℕ → Tally → Network → Final
 allDone count t n = record { answer = answered 0 0 0 count; tally = t; network = n }
 
--- k events from place on
+-- k events from place on; an event's deliveries are the size of the set of its receivers (document 02, E2)
 unfoldable pub runFrom : ℕ → List ℕ → ℕ → Table → Network → Tally → Final
 runFrom zero ev place b n t = allDone place t n
 runFrom (suc k) ev place b n t =
     let o = turnOf b n (readAt ev place) in
     cond (eqb (o .turned .number) 0)
-    (runFrom k ev (place + 1) b (o .network) (talliedOf t (o .turned .kind) (o .turned .receivers)))
+    (runFrom k ev (place + 1) b (o .network) (talliedOf t (o .turned .kind) (size (o .turned .receivers))))
     (stopsAt (o .turned .number) place t n)
 
 -- every event of a list, from a network that was read

@@ -7,7 +7,6 @@ use native.Mathlib.Omega.{arith}
 use Rattle.sets.specs.Set.{digit, size, count}
 use Rattle.sets.specs.Sums.{sum}
 use Rattle.sets.specs.laws.Counts.{count-ext, count-first}
-use Rattle.sets.specs.laws.Sizes.{size-none}
 use Rattle.network.specs.declared.Network.{Network}
 use Rattle.network.specs.declared.Table.{Table}
 use Rattle.events.specs.declared.Read.{Read}
@@ -37,37 +36,37 @@ turn-kind b n Unknown = refl
 turn-kind b n Unfit = refl
 
 -- the counts of a tally after an event of a kind
-pub tallied-produced : (t : Tally) (kind : Kind) (to : ℕ) → talliedOf t kind to .produced ≡ t .produced + digit (alike kind Kind.Produce)
+pub tallied-produced : (t : Tally) (kind : Kind) (d : ℕ) → talliedOf t kind d .produced ≡ t .produced + digit (alike kind Kind.Produce)
 unfolding talliedOf alike codeOf
-tallied-produced t Skip to = omega arith
-tallied-produced t Produce to = refl
-tallied-produced t Forward to = omega arith
-tallied-produced t Subscribe to = omega arith
-tallied-produced t Unsubscribe to = omega arith
-tallied-produced t Leave to = omega arith
-tallied-produced t Join to = omega arith
+tallied-produced t Skip d = omega arith
+tallied-produced t Produce d = refl
+tallied-produced t Forward d = omega arith
+tallied-produced t Subscribe d = omega arith
+tallied-produced t Unsubscribe d = omega arith
+tallied-produced t Leave d = omega arith
+tallied-produced t Join d = omega arith
 
-pub tallied-forwards : (t : Tally) (kind : Kind) (to : ℕ) → talliedOf t kind to .forwards ≡ t .forwards + digit (alike kind Kind.Forward)
+pub tallied-forwards : (t : Tally) (kind : Kind) (d : ℕ) → talliedOf t kind d .forwards ≡ t .forwards + digit (alike kind Kind.Forward)
 unfolding talliedOf alike codeOf
-tallied-forwards t Skip to = omega arith
-tallied-forwards t Produce to = omega arith
-tallied-forwards t Forward to = refl
-tallied-forwards t Subscribe to = omega arith
-tallied-forwards t Unsubscribe to = omega arith
-tallied-forwards t Leave to = omega arith
-tallied-forwards t Join to = omega arith
+tallied-forwards t Skip d = omega arith
+tallied-forwards t Produce d = omega arith
+tallied-forwards t Forward d = refl
+tallied-forwards t Subscribe d = omega arith
+tallied-forwards t Unsubscribe d = omega arith
+tallied-forwards t Leave d = omega arith
+tallied-forwards t Join d = omega arith
 
--- only a forward has receivers, so that the tally has all deliveries
-pub tallied-deliveries : (t : Tally) (kind : Kind) (to : ℕ) → (kind ≡ Kind.Forward) ⊎ (to ≡ 0) → talliedOf t kind to .deliveries ≡ t .deliveries + size to
+-- only a forward delivers, so that the tally has all deliveries
+pub tallied-deliveries : (t : Tally) (kind : Kind) (d : ℕ) → (kind ≡ Kind.Forward) ⊎ (d ≡ 0) → talliedOf t kind d .deliveries ≡ t .deliveries + d
 unfolding talliedOf
-tallied-deliveries t kind to (inl e) = rw e
-tallied-deliveries t Forward to (inr e) = refl
-tallied-deliveries t Skip to (inr e) = omega (arith, ap size e, size-none)
-tallied-deliveries t Produce to (inr e) = omega (arith, ap size e, size-none)
-tallied-deliveries t Subscribe to (inr e) = omega (arith, ap size e, size-none)
-tallied-deliveries t Unsubscribe to (inr e) = omega (arith, ap size e, size-none)
-tallied-deliveries t Leave to (inr e) = omega (arith, ap size e, size-none)
-tallied-deliveries t Join to (inr e) = omega (arith, ap size e, size-none)
+tallied-deliveries t kind d (inl e) = rw e
+tallied-deliveries t Forward d (inr e) = refl
+tallied-deliveries t Skip d (inr e) = omega arith
+tallied-deliveries t Produce d (inr e) = omega arith
+tallied-deliveries t Subscribe d (inr e) = omega arith
+tallied-deliveries t Unsubscribe d (inr e) = omega arith
+tallied-deliveries t Leave d (inr e) = omega arith
+tallied-deliveries t Join d (inr e) = omega arith
 
 -- The tally of a run of k events: what it began with, and how many of the accepted events are of each kind.
 pub record Counts (ev : List ℕ) (k place : ℕ) (n : Network) (t : Tally) (f : Final) : Type 0 where
@@ -104,15 +103,15 @@ module _ (ev : List ℕ) (b : Table) where
   on k place n t f e ih =
       record {
         began = omega (arith, ih .began);
-        produced = total Kind.Produce (t .produced) (f .tally .produced) _ (tallied-produced t kind to) (ih .produced);
-        forwards = total Kind.Forward (t .forwards) (f .tally .forwards) _ (tallied-forwards t kind to) (ih .forwards);
+        produced = total Kind.Produce (t .produced) (f .tally .produced) _ (tallied-produced t kind d) (ih .produced);
+        forwards = total Kind.Forward (t .forwards) (f .tally .forwards) _ (tallied-forwards t kind d) (ih .forwards);
       }
     where
       kind : Kind
       kind = outcomeAt ev place b n .turned .kind
 
-      to : ℕ
-      to = outcomeAt ev place b n .turned .receivers
+      d : ℕ
+      d = size (outcomeAt ev place b n .turned .receivers)
 
       total : (c : Kind) (x y z : ℕ) → z ≡ x + digit (alike kind c) → y ≡ z + kinds ev c (place + 1) (f .answer .accepted - (place + 1))
           → y ≡ x + kinds ev c place (f .answer .accepted - place)

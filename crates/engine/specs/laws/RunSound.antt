@@ -68,27 +68,27 @@ turn-pairs s rows End f h = rw size-none
 turn-pairs s rows Unknown f h = rw size-none
 turn-pairs s rows Unfit f h = rw size-none
 
--- an event that is no forward has no receivers
-event-receivers : (n : Network) (b : Table) (e : Event) → (kindOf e ≡ Kind.Forward) ⊎ (receiversOf n b e ≡ 0)
+-- an event that is no forward delivers nothing
+event-delivers : (n : Network) (b : Table) (e : Event) → (kindOf e ≡ Kind.Forward) ⊎ (size (receiversOf n b e) ≡ 0)
 unfolding kindOf receiversOf
-event-receivers n b Skip = inr refl
-event-receivers n b (Produce p m) = inr refl
-event-receivers n b (Forward p m) = inl refl
-event-receivers n b (Subscribe p topics) = inr refl
-event-receivers n b (Unsubscribe p topics) = inr refl
-event-receivers n b (Leave p) = inr refl
-event-receivers n b (Join p j) = inr refl
+event-delivers n b Skip = inr size-none
+event-delivers n b (Produce p m) = inr size-none
+event-delivers n b (Forward p m) = inl refl
+event-delivers n b (Subscribe p topics) = inr size-none
+event-delivers n b (Unsubscribe p topics) = inr size-none
+event-delivers n b (Leave p) = inr size-none
+event-delivers n b (Join p j) = inr size-none
 
-pub turn-receivers : (b : Table) (n : Network) (r : Read) → (turnOf b n r .turned .kind ≡ Kind.Forward) ⊎ (turnOf b n r .turned .receivers ≡ 0)
+pub turn-delivers : (b : Table) (n : Network) (r : Read) → (turnOf b n r .turned .kind ≡ Kind.Forward) ⊎ (size (turnOf b n r .turned .receivers) ≡ 0)
 unfolding turnOf turnedOf turned
-turn-receivers b n (Taken e) = first (refusal n b e)
+turn-delivers b n (Taken e) = first (refusal n b e)
   where
-    first : (k : ℕ) → (turned k (kindOf e) (receiversOf n b e) .kind ≡ Kind.Forward) ⊎ (turned k (kindOf e) (receiversOf n b e) .receivers ≡ 0)
-    first zero = event-receivers n b e
-    first (suc k) = inr refl
-turn-receivers b n End = inr refl
-turn-receivers b n Unknown = inr refl
-turn-receivers b n Unfit = inr refl
+    first : (k : ℕ) → (turned k (kindOf e) (receiversOf n b e) .kind ≡ Kind.Forward) ⊎ (size (turned k (kindOf e) (receiversOf n b e) .receivers) ≡ 0)
+    first zero = event-delivers n b e
+    first (suc k) = inr size-none
+turn-delivers b n End = inr size-none
+turn-delivers b n Unknown = inr size-none
+turn-delivers b n Unfit = inr size-none
 
 -- ---- a run
 
@@ -109,17 +109,17 @@ module _ (ev : List ℕ) (h : Bytes ev) (b : Table) (rows : Rows b) where
               arith,
               ih .balance (next s),
               turn-pairs s rows (readAt ev place) (reads-fit ev h place) e,
-              tallied-produced t kind to,
-              tallied-forwards t kind to,
-              tallied-deliveries t kind to (turn-receivers b n (readAt ev place)),
+              tallied-produced t kind d,
+              tallied-forwards t kind d,
+              tallied-deliveries t kind d (turn-delivers b n (readAt ev place)),
             );
       }
     where
       kind : Kind
       kind = outcomeAt ev place b n .turned .kind
 
-      to : ℕ
-      to = outcomeAt ev place b n .turned .receivers
+      d : ℕ
+      d = size (outcomeAt ev place b n .turned .receivers)
 
       next : Sound n → Sound (outcomeAt ev place b n .network)
       next s = turn-sound s rows (readAt ev place) (reads-fit ev h place)

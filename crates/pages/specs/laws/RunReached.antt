@@ -18,7 +18,7 @@ use Rattle.engine.specs.Run.{zeroTally, Final, runFrom, runAll}
 use Rattle.engine.specs.RunLaws.{outcomeAt, tallyAfter}
 use Rattle.engine.specs.laws.RunLaws.{run-ind}
 use Rattle.engine.specs.laws.RunCounts.{tallied-deliveries}
-use Rattle.engine.specs.laws.RunSound.{turn-receivers, reads-fit, turn-sound}
+use Rattle.engine.specs.laws.RunSound.{turn-delivers, reads-fit, turn-sound}
 use Rattle.endian.specs.laws.Le.{Bytes}
 use Rattle.network.specs.Network.{Rows}
 use Rattle.network.specs.Sound.{Sound}
@@ -49,7 +49,7 @@ module _ (ev : List ℕ) (b : Table) (n : Network) where
       record {
         each = λ i l. ⊎-elim (s .each i) (λ z. rw z (rw (s .network) at e)) (below-suc i place (rw (← (add-one place)) l));
         network = ap (λ (x : Network). outcomeAt ev place b x .network) (s .network) ∙ sym (one-more place);
-        deliveries = tallied-deliveries t _ _ (turn-receivers b m (readAt ev place)) ∙ rw (s .network) (omega (arith, s .deliveries, sum-more place (λ i. size (turnAt ev b n i .receivers))));
+        deliveries = tallied-deliveries t _ _ (turn-delivers b m (readAt ev place)) ∙ rw (s .network) (omega (arith, s .deliveries, sum-more place (λ i. size (turnAt ev b n i .receivers))));
       }
 
   along : (k place : ℕ) (m : Network) (t : Tally) → So place m t → Along ev b n (runFrom k ev place b m t)

@@ -18,23 +18,17 @@ use Rattle.engine.proofs.counts.tallied.Tie as tie
 enum-told : tie.Need-enum-told
 enum-told c = search needs
 
-add-t6 : tie.Need-add-t6
-add-t6 c = search needs
+add-t5 : tie.Need-add-t5
+add-t5 c = search needs
 
 enum-told-2 : tie.Need-enum-told-2
 enum-told-2 c = search needs
 
-size32-requires : tie.Need-size32-requires
-size32-requires c κs = search needs
+add-t6 : tie.Need-add-t6
+add-t6 c = search needs
 
-add-t7 : tie.Need-add-t7
-add-t7 c = search needs
-
-cast-t8 : tie.Need-cast-t8
-cast-t8 c = search needs
-
-add-t9 : tie.Need-add-t9
-add-t9 c = search needs
+add-t8 : tie.Need-add-t8
+add-t8 c = search needs
 
 returns : tie.Need-returns
 unfolding talliedOf
@@ -42,7 +36,7 @@ returns c = rw (c .before .enum-told .given .1)
 
 returns-2 : tie.Need-returns-2
 unfolding talliedOf
-returns-2 c = rw (c .before .before .before .enum-told2 .given .1, c .before .before .size32 .ensures .0)
+returns-2 c = rw (c .before .before .enum-told2 .given .1)
 
 -- produce and forward stand at places 1 and 2 of the enum, and the other kinds do not
 none-of : (x : ℕ) → 0 < x → x < 3 → OneOf (0 ∷ 3 ∷ 4 ∷ 5 ∷ 6 ∷ []) x → ⊥
@@ -53,20 +47,19 @@ none-of x a b (inr (inr (inr (inl h)))) = omega arith
 none-of x a b (inr (inr (inr (inr h)))) = omega arith
 
 -- the five other kinds count for nothing
-others : (t : Tally) (kind : Kind) (to : ℕ) → OneOf (0 ∷ 3 ∷ 4 ∷ 5 ∷ 6 ∷ []) (tagOf declared.the-type kind) → t ≡ talliedOf t kind to
+others : (t : Tally) (kind : Kind) (d : ℕ) → OneOf (0 ∷ 3 ∷ 4 ∷ 5 ∷ 6 ∷ []) (tagOf declared.the-type kind) → t ≡ talliedOf t kind d
 unfolding talliedOf
-others t Skip to h = refl
-others t Produce to h = absurd (none-of 1 (omega arith) (omega arith) h)
-others t Forward to h = absurd (none-of 2 (omega arith) (omega arith) h)
-others t Subscribe to h = refl
-others t Unsubscribe to h = refl
-others t Leave to h = refl
-others t Join to h = refl
+others t Skip d h = refl
+others t Produce d h = absurd (none-of 1 (omega arith) (omega arith) h)
+others t Forward d h = absurd (none-of 2 (omega arith) (omega arith) h)
+others t Subscribe d h = refl
+others t Unsubscribe d h = refl
+others t Leave d h = refl
+others t Join d h = refl
 
 returns-3 : tie.Need-returns-3
 returns-3 c = others _ _ _ (c .match .keys3)
 
 pub tallied-spec : {M : Type 1} → statement M
 tallied-spec =
-    tie.close
-    (tie.spec enum-told add-t6 enum-told-2 size32-requires add-t7 cast-t8 add-t9 returns returns-2 returns-3)
+    tie.close (tie.spec enum-told add-t5 enum-told-2 add-t6 add-t8 returns returns-2 returns-3)

@@ -1,8 +1,10 @@
 -- `engine::running::run_parts` meets its contract. The loop keeps `Going`: the rest of the run, from here, ends as the whole does. Assumes nothing.
 use borrow.Author.Needs.{needs}
-use Prim.Native.Nat.{_-_, _*_, _/_, _^_, _<_}
+use Prim.Native.Nat.{_-_, _*_, _/_, _^_, _≤_, _<_}
 use lib.ListN.{length}
 use native.Mathlib.Omega.{arith}
+use Rattle.sets.specs.Set.{size}
+use Rattle.sets.specs.laws.Sizes.{size-le}
 use Rattle.network.specs.declared.Network.{Network}
 use Rattle.network.specs.Network.{withAll, table}
 use Rattle.network.specs.laws.Network.{bare}
@@ -45,9 +47,9 @@ turned c = accepted c .before
 small : (h : tie.At-loop Inv-loop μ-loop) → 32 * (length (start h .args .events .now) / 16) < 2 ^ 64
 small h = omega (arith, start h .good .1 .1 .1 .1 .1 .1 .1 .1 .1 .0 .1)
 
--- the receivers that a turn answers are a word of 32 bits
-word : (u : tie.After-turn Inv-loop μ-loop) → u .turn .result .receivers < 2 ^ 32
-word u = u .turn .ok .1 .1 .1 .1 .0 .1
+-- the receivers that a turn answers are a word of 32 bits, and so 32 at most
+few : (u : tie.After-turn Inv-loop μ-loop) → size (u .turn .result .receivers) ≤ 32
+few u = size-le 32 _ (u .turn .ok .1 .1 .1 .1 .0 .1)
 
 loop-holds : tie.Need-loop-holds Inv-loop μ-loop
 loop-holds c = λ n. going-start _ _ _ _
@@ -73,7 +75,7 @@ count-in-requires : tie.Need-count-in-requires Inv-loop μ-loop
 count-in-requires c κs =
     let u = turned c in
     let e = u .before in
-    going-room _ _ _ (head e .loop .inv bare) (inside e .loop-test .taken) (small (head e))
+    going-room _ _ _ (head e .loop .inv bare) (inside e .loop-test .taken) (small (head e)) _ (few u)
 
 add-place : tie.Need-add-place Inv-loop μ-loop
 add-place c =
@@ -87,7 +89,7 @@ loop-again : tie.Need-loop-again Inv-loop μ-loop
 loop-again c =
     let u = turned (c .before) in
     let e = u .before in
-    λ n. ran-on _ _ _ (head e .loop .inv n) (inside e .loop-test .taken) (read-is _ _ _ (e .event-at .ensures)) _ _ (u .turn .ensures n) (accepted (c .before) .if1 .left) (word u) _ (c .count-in .ensures)
+    λ n. ran-on _ _ _ (head e .loop .inv n) (inside e .loop-test .taken) (read-is _ _ _ (e .event-at .ensures)) _ _ (u .turn .ensures n) (accepted (c .before) .if1 .left) (few u) _ (c .count-in .ensures)
 
 answer-requires-2 : tie.Need-answer-requires-2 Inv-loop μ-loop
 answer-requires-2 c κs = search needs

@@ -1,8 +1,7 @@
 -- `engine::counts::count_in` meets its contract. Assumes nothing.
 use borrow.Author.Needs.{needs}
-use mathlib.Core.Path.{ap, _∙_}
-use Prim.Native.Nat.{ℕ}
-use Rattle.engine.specs.Run.{talliedOf}
+use mathlib.Core.Path.{sym, ap, subst, _∙_}
+use Rattle.engine.specs.Run.{Room, talliedOf}
 use Rattle.engine.proofs.counts.count_in.Statement.{statement}
 use Rattle.engine.proofs.counts.count_in.Tie as tie
 
@@ -14,7 +13,7 @@ size32-requires : tie.Need-size32-requires
 size32-requires c κs = search needs
 
 tallied-requires : tie.Need-tallied-requires
-tallied-requires c κs = rw (sized c .size32 .ensures .0) (sized c .before .pre)
+tallied-requires c κs = subst (Room _) (sym (sized c .size32 .ensures .0)) (sized c .before .pre)
 
 returns : tie.Need-returns
 returns c = c .tallied .ensures ∙ ap (talliedOf _ _) (sized (c .before) .size32 .ensures .0)

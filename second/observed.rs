@@ -38,12 +38,11 @@ impl Forward<'_> {
     pub fn wrong(&self) -> Vec<String> {
         let answer = self.answer;
         let receivers = word_of(&answer.receivers);
-        let lengths = [self.before.len(), self.after.len(), self.table.len()];
         let mut tests =
             vec![(receivers.count_ones() == answer.deliveries, "the count is not the set's size")];
         if answer.number != 0 {
             tests.push((receivers == 0, "a refused forward has receivers"));
-        } else if lengths != [5120, 5120, 256] || self.peer > 31 || self.message > 63 {
+        } else if !self.can_be_read() {
             tests.push((false, "it is accepted with a wrong length or number"));
         } else {
             tests.extend([
@@ -54,6 +53,15 @@ impl Forward<'_> {
         }
         let broken = tests.into_iter().filter(|(holds, _)| !holds);
         broken.map(|(_, words)| format!("{words}: {answer:?}")).collect()
+    }
+
+    fn can_be_read(&self) -> bool {
+        let lengths = [self.before.len(), self.after.len(), self.table.len()];
+        lengths == [5120, 5120, 256] && self.peer < 32 && self.message < 64 && self.topic() < 32
+    }
+
+    fn topic(&self) -> u8 {
+        self.table[4 * self.message as usize]
     }
 
     fn has(&self, state: &[u8], peer: usize, place: usize) -> bool {
@@ -68,9 +76,8 @@ impl Forward<'_> {
     /// Who is linked to the sender, subscribed to the topic, and had the message neither pending nor seen. The
     /// known subscribers are not asked: a sound state has them so.
     fn entitled(&self) -> u32 {
-        let topic = self.table[4 * self.message as usize];
         let linked = |q| word(self.before, self.peer as usize, 12) >> q & 1 == 1;
-        let subscribed = |q| word(self.before, q, 8) >> topic & 1 == 1;
+        let subscribed = |q| word(self.before, q, 8) >> self.topic() & 1 == 1;
         let had = |q| self.has(self.before, q, 16) || self.has(self.before, q, 24);
         those(|q| linked(q) && subscribed(q) && !had(q))
     }

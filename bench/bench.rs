@@ -1,9 +1,10 @@
 //! The proved engine beside three of plain Rust, in one run: plain.rs has the engine's algorithms, best.rs is a faster one, without
 //! shortcuts and with them. Each task is timed in turns, and what is printed is the best of each, the ratios of the bests, and the
 //! spreads of the ratios over the turns. Before a task is timed, the answers and bytes of all four are compared, and first of all their
-//! refusals of unsound states. No time is a test.
+//! refusals of unsound states and their single forwards. No time is a test.
 mod best;
 mod engine;
+mod forwards;
 mod inputs;
 mod plain;
 mod tasks;
@@ -16,6 +17,7 @@ use timing::{laying, measure, Each, Ratio};
 
 fn main() {
     unsound::compare(&engine::ALL);
+    forwards::compare(&engine::ALL);
     let tasks = tasks::tasks();
     println!("\n## Tasks\n");
     rows(&tasks);

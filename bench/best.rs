@@ -8,7 +8,7 @@ mod events;
 mod forms;
 
 use crate::engine::{Answer, Checked, Drained, Engine, Forwarded, Refusal, Tally};
-use events::Net;
+use events::{Given, Net};
 pub use forms::{Best, Shortcuts};
 use forms::{Form, Rows};
 
@@ -217,9 +217,10 @@ fn forward<F: Form>(b: &mut [u8], table: &[u8], peer: u8, message: u8) -> Forwar
     if peer > 31 || message > 63 {
         return Forwarded::refused((7, 0, 0));
     }
-    let mut tally = Tally::default();
-    let number = net.forward(peer as usize, message as usize, &mut tally);
-    Forwarded { number, detail: 0, place: 0, deliveries: tally.deliveries as u32 }
+    match net.give(peer as usize, message as usize) {
+        Ok(Given { deliveries, receivers }) => Forwarded { number: 0, detail: 0, place: 0, deliveries, receivers },
+        Err(number) => Forwarded::refused((number, 0, 0)),
+    }
 }
 
 fn drain<F: Form>(b: &mut [u8], table: &[u8], budget: u32) -> Drained {

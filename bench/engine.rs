@@ -20,7 +20,7 @@ impl Answer {
 
 impl Forwarded {
     pub fn refused((number, detail, place): Refusal) -> Forwarded {
-        Forwarded { number, detail, place, deliveries: 0 }
+        Forwarded { number, detail, place, deliveries: 0, receivers: 0 }
     }
 }
 

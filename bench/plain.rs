@@ -168,9 +168,9 @@ pub fn forward(state: &mut [u8], tab: &[u8], peer: u8, message: u8) -> Forwarded
     if n.pending[p] >> m & 1 == 0 {
         return Forwarded::refused((13, 0, 0));
     }
-    let deliveries = n.forward(topics[m] as usize, p, m);
+    let receivers = n.forward(topics[m] as usize, p, m);
     write(&n, state);
-    Forwarded { number: 0, detail: 0, place: 0, deliveries }
+    Forwarded { number: 0, detail: 0, place: 0, deliveries: receivers.count_ones(), receivers }
 }
 
 pub fn drain(state: &mut [u8], tab: &[u8], budget: u32) -> Drained {

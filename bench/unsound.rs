@@ -42,6 +42,7 @@ fn refusals(engine: &Engine, state: &[u8], table: &[u8]) -> [Refusal; 5] {
     let of = |c: Checked| (c.number, c.detail, c.place);
     let (copied, imaged) = (of((engine.copy)(state, &mut other)), of((engine.image)(state, &mut other)));
     assert!(lent == state && other == [7; 5120], "a refused call touches a buffer");
+    assert!(forwarded.deliveries == 0 && forwarded.receivers == 0, "a refused forward has receivers");
     [
         (ran.number, ran.detail, ran.place),
         (forwarded.number, forwarded.detail, forwarded.place),

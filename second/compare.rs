@@ -21,12 +21,14 @@ mod lent;
 #[cfg(linked)]
 mod linked;
 mod model;
+mod observed;
 mod occurrences;
 mod options;
 mod orders;
 #[cfg(linked)]
 mod pages;
 mod process;
+mod receivers;
 mod report;
 mod subject;
 mod unsound;
@@ -36,10 +38,11 @@ use entries::{Part, ENTRIES};
 use inputs::rng::Rng;
 use lent::{lend, Lent};
 use model::program;
+use observed::Forward;
 use options::{Options, Seed};
 use report::Report;
 use std::time::Instant;
-use subject::{by_model, tally_of, Model, Reply, Subject};
+use subject::{by_model, tally_of, Call, Model, Reply, Subject};
 
 /// In this many steps each part goes from its first case to its last, all side by side.
 const STEPS: usize = 200;
@@ -77,6 +80,17 @@ fn differences(case: &Case, expected: (&Reply, &[Vec<u8>]), found: (&Reply, &[Le
     words
 }
 
+/// What is wrong with the receivers that the subject answers, by its own bytes and not by the model.
+fn wrong_receivers(case: &Case, reply: &Reply, lent: &[Lent]) -> Vec<String> {
+    match (case.call, reply) {
+        (Call::Forward { peer, message }, Reply::Forwarded(answer)) => {
+            let (before, table, after) = (&case.buffers[0], &case.buffers[1], lent[0].content());
+            Forward { peer, message, table, before, after, answer }.wrong()
+        }
+        _ => Vec::new(),
+    }
+}
+
 struct Comparison {
     subject: Box<dyn Subject>,
     report: Report,
@@ -94,7 +108,9 @@ impl Comparison {
         crash::call();
         let reply = self.subject.answer(case.call, &mut lent)?;
         self.report.count(part, expected.number(), occurrences::of_call(case, &expected, &after));
-        Ok(differences(case, (&expected, &after), (&reply, &lent)))
+        let mut words = differences(case, (&expected, &after), (&reply, &lent));
+        words.extend(wrong_receivers(case, &reply, &lent));
+        Ok(words)
     }
 
     /// One input of the run program: what it writes, byte for byte.
@@ -115,8 +131,8 @@ impl Comparison {
     fn orders(&mut self, seed: &Seed, number: usize, part: usize) -> Vec<String> {
         let drains = ENTRIES.iter().position(|entry| entry.part == Part::Drain).expect("drains");
         match orders::try_input(self.subject.as_mut(), seed.number, drains, number) {
-            Ok(forwards) => {
-                self.report.count(part, 0, occurrences::of_orders(forwards));
+            Ok(occurred) => {
+                self.report.count(part, 0, occurred);
                 Vec::new()
             }
             Err(words) => vec![words],

@@ -59,7 +59,7 @@ pub const ENTRIES: [Entry; 9] = [
         least: 100,
         least_unsound: 25,
         numbers: &[0, 1, 2, 3, 4, 6, 7, 8, 9, 10, 11, 12, 13, 14, 15, 16, 20, 21, 22, 23, 24, 25, 26],
-        must_occur: &[UNSOUND, ROWS, EVENTS],
+        must_occur: &[UNSOUND, ROWS, EVENTS, RECEIVERS, &["13 keeps it from somebody"]],
     },
     Entry {
         part: Part::Long,
@@ -77,7 +77,7 @@ pub const ENTRIES: [Entry; 9] = [
         least: 100,
         least_unsound: 15,
         numbers: &[0, 1, 2, 4, 7, 8, 13, 20, 21, 22, 23, 24, 25, 26],
-        must_occur: &[UNSOUND, ROWS, FORWARDS],
+        must_occur: &[UNSOUND, ROWS, FORWARDS, RECEIVERS],
     },
     Entry {
         part: Part::Drain,
@@ -104,7 +104,7 @@ pub const ENTRIES: [Entry; 9] = [
         least: 160,
         least_unsound: 0,
         numbers: &[0],
-        must_occur: &[ORDERS],
+        must_occur: &[ORDERS, RECEIVERS],
     },
     Entry {
         part: Part::Program,
@@ -179,6 +179,21 @@ const FORWARDS: &[&str] = &[
     "peer above 31",
     "message above 63",
     "unsound before a number out of range",
+    "4 keeps it from somebody",
+    "7 keeps it from somebody",
+    "13 keeps it from somebody",
+    "unsound keeps it from somebody",
+];
+
+/// Of accepted forwards: who received among those that the sender knows to subscribe.
+const RECEIVERS: &[&str] = &[
+    "nobody is known to subscribe",
+    "all that are known have it",
+    "some that are known receive",
+    "all that are known receive",
+    "several receive",
+    "0 receives",
+    "31 receives",
 ];
 
 /// Every kind accepted, every condition of every kind, and codes and places.

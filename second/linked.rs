@@ -8,6 +8,7 @@ mod interface;
 use crate::crash;
 use crate::flood;
 use crate::lent::Lent;
+use crate::model::state::peers_of;
 use crate::model::{Answer, Checked, Drained, Forwarded};
 use crate::pages::Pages;
 use crate::process::truth;
@@ -58,8 +59,9 @@ unsafe fn make_call(call: Call, parts: &[(*mut u8, usize)]) -> Result<Reply, Str
         }
         (Call::Forward { peer, message }, [(state, a), (table, b)]) => {
             let answer = relay_forward(*state, *a, *table, *b, peer, message);
-            let interface::Forwarded { number, detail, place, deliveries } = answer;
-            Reply::Forwarded(Forwarded { number, detail, place, deliveries })
+            let interface::Forwarded { number, detail, place, deliveries, receivers } = answer;
+            let receivers = peers_of(receivers);
+            Reply::Forwarded(Forwarded { number, detail, place, deliveries, receivers })
         }
         (Call::Drain { budget }, [(state, a), (table, b)]) => {
             let answer = relay_drain(*state, *a, *table, *b, budget);

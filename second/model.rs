@@ -8,6 +8,9 @@ pub mod program;
 pub mod soundness;
 pub mod state;
 
+use state::Peer;
+use std::collections::BTreeSet;
+
 /// "The answer of a run is a number, a place and the count of accepted events." The detail is E1's "lowest
 /// peer or topic at fault (0 otherwise)", here and in every other answer.
 #[derive(Clone, Copy, Debug, PartialEq, Eq)]
@@ -26,13 +29,23 @@ pub struct Tally {
     pub deliveries: u64,
 }
 
-/// "a single forward reports their number (0 if refused)"
-#[derive(Clone, Copy, Debug, PartialEq, Eq)]
+/// "a single forward reports their number (0 if refused)". E2: "the set of peers that newly hold the message;
+/// the count becomes the size of that set."
+#[derive(Clone, Debug, PartialEq, Eq)]
 pub struct Forwarded {
     pub number: u8,
     pub detail: u8,
     pub place: usize,
     pub deliveries: u32,
+    pub receivers: BTreeSet<Peer>,
+}
+
+impl Forwarded {
+    /// Refused: nobody receives anything.
+    pub fn refused(refusal: Refusal) -> Forwarded {
+        let Refusal { number, detail, place } = refusal;
+        Forwarded { number, detail, place, deliveries: 0, receivers: BTreeSet::new() }
+    }
 }
 
 /// "It answers the forwards made, the rounds finished, and whether nothing is pending."

@@ -2,7 +2,7 @@
 # Does the comparison find slips? For each one of slips.sh, plants it in a copy of the model, lets the copy
 # stand in for the engine or its run program, and demands that the comparison ends with a difference. The
 # slips are those that 01 guards against, its useless versions, one for most conditions, orders and counts,
-# and bytes read or written that are not the engine's.
+# E2's receivers, and bytes read or written that are not the engine's.
 #
 #   second/mutants.sh [--process] [NAME..]    all of them, or these; some minutes
 #   second/mutants.sh --gate                  those named below and a few that the commit picks, after run.sh has
@@ -18,7 +18,7 @@ mkdir -p "$out"
 
 gate='answers-modulo-65536 reads-beyond-events touches-table touches-refused-state writes-behind-tally leaver-stays
 back-to-seen-orders same-round image-own-pending new-at-origin lowest-rule-first neighbour-by-neighbour highest-topic
-tally-kept reads-once'
+receivers-still-pending reads-once'
 
 # Every twenty-fourth of the others, beginning where the commit's hash says, so that each has its turn in a gate.
 picked() {

@@ -4,7 +4,8 @@ use crate::cases::Case;
 use crate::model::calls::round;
 use crate::model::events::{Table, EVENT_SIZE};
 use crate::model::state::{Network, STATE_SIZE};
-use crate::model::{refuses_an_event, Answer, Forwarded, Tally};
+use crate::model::{refuses_an_event, Answer, Tally};
+use crate::receivers;
 use crate::subject::{tally_of, Call, Reply};
 use crate::unsound;
 
@@ -28,7 +29,9 @@ pub fn of_call(case: &Case, reply: &Reply, after: &[Vec<u8>]) -> Vec<Occurrence>
     let mut found = match (case.call, reply) {
         (Call::Copy, _) => of_two(case, reply),
         (Call::Run, Reply::Answer(answer)) => of_run(case, answer, &after[3]),
-        (Call::Forward { peer, message }, Reply::Forwarded(answer)) => of_forward(answer, peer, message),
+        (Call::Forward { peer, message }, Reply::Forwarded(answer)) => {
+            receivers::of_forward(case, answer, peer, message)
+        }
         (Call::Drain { budget }, _) => of_drain(case, reply, budget),
         (Call::Image, _) if reply.number() == 0 => {
             let hides = seen_pairs(&case.buffers[0]) > seen_pairs(&after[1]);
@@ -55,24 +58,11 @@ fn seen_pairs(state: &[u8]) -> u32 {
 
 fn of_run(case: &Case, answer: &Answer, tally: &[u8]) -> Vec<Occurrence> {
     let mut found = of_events(&case.buffers[2], answer);
+    found.extend(receivers::of_run(case, answer));
     if case.buffers[2].len() >= 65_535 * EVENT_SIZE {
         found.extend(of_long(case, answer, &tally_of(tally)));
     }
     found
-}
-
-fn of_forward(answer: &Forwarded, peer: u8, message: u8) -> Vec<Occurrence> {
-    let deliveries = answer.deliveries;
-    let outside = peer > 31 || message > 63;
-    those(&[
-        (answer.number == 0 && deliveries == 0, "no delivery"),
-        (deliveries == 1, "1 delivery"),
-        ((2..=30).contains(&deliveries), "2 to 30"),
-        (deliveries == 31, "31 deliveries"),
-        (answer.number == 7 && peer > 31, "peer above 31"),
-        (answer.number == 7 && peer <= 31, "message above 63"),
-        (answer.number >= 20 && outside, "unsound before a number out of range"),
-    ])
 }
 
 /// For 4, with a state of the right length.
@@ -194,12 +184,12 @@ pub fn of_input(input: &[u8], pieces: &[usize], number: u8, text: &[u8]) -> Vec<
     ])
 }
 
-/// What occurred in an input whose drain takes so many forwards.
-pub fn of_orders(forwards: u32) -> Vec<Occurrence> {
-    vec![once(match forwards {
+/// The length of an input of the orders, whose drain takes so many forwards.
+pub fn of_length(forwards: u32) -> Occurrence {
+    once(match forwards {
         0 => "no forward",
         1..=64 => "1 to 64 forwards",
         65..=1000 => "65 to 1,000 forwards",
         _ => "more than 1,000 forwards",
-    })]
+    })
 }

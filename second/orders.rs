@@ -7,16 +7,12 @@ use crate::crash;
 use crate::entries::Part;
 use crate::inputs::rng::Rng;
 use crate::lent::lend;
-use crate::model::Answer;
+use crate::model::state::peers_of;
+use crate::model::{Answer, Forwarded};
+use crate::observed::{messages, word, Forward, RECORD};
+use crate::occurrences::{of_length, Occurrence};
+use crate::receivers::of_receivers;
 use crate::subject::{tally_of, Call, Reply, Subject};
-
-const RECORD: usize = 160;
-
-/// A set of messages as it stands in a record: 16 for pending, 24 for seen.
-fn messages(state: &[u8], peer: usize, place: usize) -> u64 {
-    let start = RECORD * peer + place;
-    u64::from_le_bytes(state[start..start + 8].try_into().expect("8 bytes"))
-}
 
 fn pending_pairs(state: &[u8]) -> Vec<(u8, u8)> {
     let pairs = (0..32).flat_map(|p| (0..64).map(move |m| (p, m)));
@@ -37,14 +33,19 @@ fn demand(holds: bool, words: impl Fn() -> String) -> Result<(), String> {
     }
 }
 
-/// One engine with one table.
+/// One engine with one table, and what occurred in its single forwards.
 struct Trial<'a> {
     subject: &'a mut dyn Subject,
     table: Vec<u8>,
     rng: Rng,
+    occurred: Vec<Occurrence>,
 }
 
-impl Trial<'_> {
+impl<'a> Trial<'a> {
+    fn new(subject: &'a mut dyn Subject, case: &Case, rng: Rng) -> Trial<'a> {
+        Trial { subject, table: case.buffers[1].clone(), rng, occurred: Vec::new() }
+    }
+
     fn call(&mut self, call: Call, buffers: &mut [Vec<u8>]) -> Result<Reply, String> {
         let mut lent = lend(&mut self.rng, call, buffers, false);
         crash::call();
@@ -68,16 +69,36 @@ impl Trial<'_> {
         }
     }
 
+    /// The state after a forward, and the deliveries.
     fn forward(&mut self, state: &[u8], peer: u8, message: u8) -> Result<(Vec<u8>, u32), String> {
         let mut buffers = [state.to_vec(), self.table.clone()];
         let reply = self.call(Call::Forward { peer, message }, &mut buffers)?;
         let [after, _] = buffers;
         match reply {
             Reply::Forwarded(reply) if (reply.number, reply.detail) == (0, 0) => {
+                self.receivers(state, peer, message, &after, &reply)?;
                 Ok((after, reply.deliveries))
             }
             _ => Err(format!("the forward of {message} by {peer}, pending there, answers {reply:?}")),
         }
+    }
+
+    /// Are the receivers as the bytes say? Notes what occurred.
+    fn receivers(
+        &mut self,
+        before: &[u8],
+        peer: u8,
+        message: u8,
+        after: &[u8],
+        answer: &Forwarded,
+    ) -> Result<(), String> {
+        let table = &self.table;
+        let wrong = Forward { peer, message, table, before, after, answer }.wrong();
+        demand(wrong.is_empty(), || wrong.join("; "))?;
+        let topic = table[4 * message as usize] as usize;
+        let known = peers_of(word(before, peer as usize, 32 + 4 * topic));
+        self.occurred.extend(of_receivers(&known, &answer.receivers));
+        Ok(())
     }
 
     /// Single forwards in any order until nothing is pending: the end, the records and the deliveries.
@@ -124,7 +145,7 @@ impl Trial<'_> {
         })
     }
 
-    fn all(&mut self, start: &[u8]) -> Result<u32, String> {
+    fn all(&mut self, start: &[u8]) -> Result<(), String> {
         let (end, forwards, quiet) = self.drain(start, 2048)?;
         demand(quiet && pending_pairs(&end).is_empty(), || "a drain of 2,048 leaves something".to_string())?;
         let unseen = (unseen_pairs(start), unseen_pairs(&end));
@@ -138,7 +159,8 @@ impl Trial<'_> {
         for _ in 0..2 {
             self.order(start, &end, forwards)?;
         }
-        Ok(forwards)
+        self.occurred.push(of_length(forwards));
+        Ok(())
     }
 }
 
@@ -146,7 +168,7 @@ impl Trial<'_> {
 fn accepted_input(subject: &mut dyn Subject, seed: u64, part: usize, number: usize) -> Option<Case> {
     for number in number..number + 40 {
         let case = make(Part::Drain, &mut Rng::for_case(seed, part as u64, number as u64), number);
-        let mut trial = Trial { subject, table: case.buffers[1].clone(), rng: Rng::new(0) };
+        let mut trial = Trial::new(subject, &case, Rng::new(0));
         if trial.drain(&case.buffers[0], 0).is_ok() {
             return Some(case);
         }
@@ -154,13 +176,19 @@ fn accepted_input(subject: &mut dyn Subject, seed: u64, part: usize, number: usi
     None
 }
 
-/// Tries one input of the drains, whose part has this index: the forwards that it needs, or what is wrong.
-pub fn try_input(subject: &mut dyn Subject, seed: u64, drains: usize, number: usize) -> Result<u32, String> {
+/// Tries one input of the drains, whose part has this index: what occurred, or what is wrong.
+pub fn try_input(
+    subject: &mut dyn Subject,
+    seed: u64,
+    drains: usize,
+    number: usize,
+) -> Result<Vec<Occurrence>, String> {
     // A step that meets drains of every kind.
     let Some(case) = accepted_input(subject, seed, drains, 37 * number) else {
         return Err("none of 40 drains is accepted".to_string());
     };
     let rng = Rng::for_case(seed, 1000 + drains as u64, number as u64);
-    let mut trial = Trial { subject, table: case.buffers[1].clone(), rng };
-    trial.all(&case.buffers[0])
+    let mut trial = Trial::new(subject, &case, rng);
+    trial.all(&case.buffers[0])?;
+    Ok(trial.occurred)
 }

@@ -4,6 +4,7 @@
 use crate::crash;
 use crate::flood;
 use crate::lent::Lent;
+use crate::model::state::peers_of;
 use crate::model::{Answer, Checked, Drained, Forwarded};
 use crate::subject::{Call, Reply, Subject};
 use std::io::{Read, Write};
@@ -73,7 +74,8 @@ impl Subject for Process {
             Call::Check | Call::Copy | Call::Image => Reply::Checked(Checked { number, detail, place }),
             Call::Run => Reply::Answer(Answer { number, detail, place, accepted: reply[3] as usize }),
             Call::Forward { .. } => {
-                Reply::Forwarded(Forwarded { number, detail, place, deliveries: reply[3] as u32 })
+                let (deliveries, receivers) = (reply[3] as u32, peers_of(reply[4] as u32));
+                Reply::Forwarded(Forwarded { number, detail, place, deliveries, receivers })
             }
             Call::Drain { .. } => {
                 let (forwards, rounds, quiet) = (reply[3] as u32, reply[4] as u32, truth(reply[5])?);

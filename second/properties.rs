@@ -7,23 +7,27 @@ use crate::inputs::refusals::refused;
 use crate::inputs::rng::Rng;
 use crate::inputs::several::{plant, SEVERAL};
 use crate::inputs::table_or_zero;
-use crate::model::calls::{check, drain_network, image_of, round};
+use crate::model::calls::{self, check, drain_network, image_of, round};
 use crate::model::events::{apply, forward, Event, Table};
 use crate::model::state::{all_messages, all_peers, Message, Network, Peer};
+use crate::observed::Forward;
 use std::collections::{BTreeMap, BTreeSet};
 
 pub fn all() {
     let mut rng = Rng::new(1);
     for _ in 0..400 {
         let network = any(&mut rng);
-        let table = table_or_zero(&table(&mut rng, &network));
+        let bytes = table(&mut rng, &network);
+        let table = table_or_zero(&bytes);
         bytes_and_back(&mut rng, &network);
         events_keep_sound(&mut rng, network.clone(), &table);
         refused_events_change_nothing(&mut rng, &network, &table);
         forwards_reach(&mut rng, &network, &table);
+        receivers_as_observed(&mut rng, &network, &bytes);
     }
     println!("events: sound after each, the tally adds up, the image steps as tabled");
     println!("forwards: one pair fewer each, the end as by chains, the rounds as by their length");
+    println!("receivers: those who newly hold the message, by the bytes alone; nobody if refused");
     damage_is_exact(&mut rng);
     lowest_comes_first(&mut rng);
     longest_drain();
@@ -44,11 +48,11 @@ fn events_keep_sound(rng: &mut Rng, mut network: Network, table: &Table) {
     for _ in 0..20 {
         let event = Event::parse(&accepted(rng, &network, table, mood)).expect("an event");
         let before = network.clone();
-        let deliveries = apply(&mut network, table, &event).expect("an accepted event");
+        let receivers = apply(&mut network, table, &event).expect("an accepted event");
         assert_eq!(network.lowest_fault(), None, "sound after {event:?}");
         let (more, fewer) = match event {
             Event::Produce(..) => (1, 0),
-            Event::Forward(..) => (deliveries as usize, 1),
+            Event::Forward(..) => (receivers.len(), 1),
             _ => (0, 0),
         };
         assert_eq!(network.pending_pairs().len() + fewer, before.pending_pairs().len() + more);
@@ -117,6 +121,20 @@ fn chains(start: &Network, table: &Table, m: Message) -> BTreeMap<Peer, usize> {
         links += 1;
     }
     lengths
+}
+
+/// E2's statements on single forwards, accepted and refused, as the engine's answers are tested.
+fn receivers_as_observed(rng: &mut Rng, start: &Network, table: &[u8]) {
+    let mut state = start.bytes();
+    for _ in 0..20 {
+        let any = (Peer(rng.below(34) as u8), Message(rng.below(66) as u8));
+        let pending = rng.pick(&Network::parse(&state).pending_pairs());
+        let (Peer(peer), Message(message)) = pending.filter(|_| rng.chance(2, 3)).unwrap_or(any);
+        let before = state.clone();
+        let answer = calls::forward(&mut state, table, peer, message);
+        let forward = Forward { peer, message, table, before: &before, after: &state, answer: &answer };
+        assert_eq!(forward.wrong(), [""; 0]);
+    }
 }
 
 /// Demand 3 of 00.

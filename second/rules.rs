@@ -97,7 +97,7 @@ fn refused_everywhere(state: &[u8], (number, detail, place): (u8, u8, usize)) {
     assert_eq!(answer, Answer { number, detail, place, accepted: 0 });
     assert_eq!(tally, Tally { produced: 1, forwards: 2, deliveries: 3 });
     let answer = forward(&mut lent, &[0; 256], 32, 64);
-    assert_eq!(answer, Forwarded { number, detail, place, deliveries: 0 });
+    assert_eq!(answer, Forwarded { number, detail, place, deliveries: 0, receivers: [].into() });
     let answer = drain(&mut lent, &[0; 256], 2048);
     assert_eq!(answer, Drained { number, detail, place, forwards: 0, rounds: 0, quiet: false });
     assert!(lent == state, "untouched");

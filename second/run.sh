@@ -8,6 +8,7 @@
 #   second/run.sh --self      compares the model with itself and needs no engine
 #   second/run.sh WORD..      only the comparison, with these words: --seed WORD --case PART NUMBER ..
 # The run program is target/bin/flood. It may be absent only while crates.txt does not list it.
+# RELAY_ENGINE_DIR names a folder that has a libengine.a already; then none is made.
 set -eu
 cd "$(dirname "$0")/.."
 out=target/second
@@ -32,8 +33,8 @@ fi
 # Compiled while the library is made.
 compile_compare "$route" &
 compiling=$!
-rt staticlib engine
-library=target/staticlib/libengine.a
+[ -n "${RELAY_ENGINE_DIR-}" ] || rt staticlib engine
+library=${RELAY_ENGINE_DIR:-target/staticlib}/libengine.a
 
 # The library and the run program are for x86-64. The kit has an emulator where the machine is another.
 kit=${RATTLE_HOME:-$(dirname "$(dirname "$(rt doc)")")}

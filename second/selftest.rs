@@ -5,12 +5,13 @@
 #[allow(dead_code)]
 mod inputs;
 mod model;
+mod observed;
 mod properties;
 mod rules;
 
 use model::calls::{check, copy, drain, forward, image, run};
 use model::program::output;
-use model::state::{Network, Peer};
+use model::state::{peers_of, Network, Peer};
 use model::{Answer, Checked, Drained, Forwarded, Tally};
 
 type Bytes = [u8; 16];
@@ -163,8 +164,9 @@ fn refused_forwards(good: &[u8], unsound: &[u8], bad_row: &[u8]) {
     let zero_row = [0; 256];
     let try_forward = |state: &[u8], table: &[u8], peer, message| {
         let mut lent = state.to_vec();
-        let Forwarded { number, detail, place, deliveries } = forward(&mut lent, table, peer, message);
-        assert!(lent == state && deliveries == 0, "untouched");
+        let Forwarded { number, detail, place, deliveries, receivers } =
+            forward(&mut lent, table, peer, message);
+        assert!(lent == state && deliveries == 0 && receivers.is_empty(), "untouched, nobody receives");
         (number, detail, place)
     };
     assert_eq!(try_forward(&unsound[1..], &bad_row[1..], 32, 64), (1, 0, 0));
@@ -175,8 +177,34 @@ fn refused_forwards(good: &[u8], unsound: &[u8], bad_row: &[u8]) {
     assert_eq!(try_forward(good, &zero_row, 3, 64), (7, 0, 0));
     assert_eq!(try_forward(good, &zero_row, 3, 5), (8, 0, 0));
     assert_eq!(try_forward(good, &zero_row, 1, 5), (13, 0, 0));
-    let done = forward(&mut good.to_vec(), &zero_row, 0, 5);
-    assert_eq!(done, Forwarded { number: 0, detail: 0, place: 0, deliveries: 1 });
+}
+
+/// E2 by hand. After H and produce 0/5, each forward names those who newly hold 5; then the same with 31, which
+/// is linked to all three and subscribed.
+fn receivers() {
+    let mut state = outcome(&after_h(&[produce(0, 5)])).1;
+    let mut step = |peer, message, receivers: u32| {
+        let (deliveries, receivers) = (receivers.count_ones(), peers_of(receivers));
+        let expected = Forwarded { number: 0, detail: 0, place: 0, deliveries, receivers };
+        assert_eq!(forward(&mut state, &[0; 256], peer, message), expected, "{message} by {peer}");
+    };
+    // 0 is linked to 1; 1 also to 2, and 0 subscribes to nothing; 2 only to 1, which has seen 5.
+    step(0, 5, 0b10);
+    step(1, 5, 0b100);
+    step(2, 5, 0);
+    let mut events = after_h(&[join(31, 1, 1, 0b111), produce(0, 5), forward_event(0, 5)]);
+    let (_, mut state, tally) = outcome(&events);
+    assert_eq!(tally, Tally { produced: 1, forwards: 1, deliveries: 2 });
+    // 5 is pending at 1 and 31 now. 1 knows 2 and 31, and only 2 lacks it; 31 knows 1, which has seen it, and 2.
+    let answer = forward(&mut state, &[0; 256], 1, 5);
+    assert_eq!((answer.deliveries, answer.receivers), (1, [Peer(2)].into()));
+    let answer = forward(&mut state, &[0; 256], 31, 5);
+    assert_eq!((answer.deliveries, answer.receivers), (0, [].into()));
+    // From 0 to 1 and 31 at once, the highest desk among them.
+    events.truncate(5);
+    let answer = forward(&mut outcome(&events).1, &[0; 256], 0, 5);
+    assert_eq!((answer.deliveries, answer.receivers), (2, peers_of(0x8000_0002)));
+    println!("receivers: as worked out by hand");
 }
 
 fn refused_copies(good: &[u8], unsound: &[u8]) {
@@ -199,6 +227,7 @@ fn main() {
     example();
     limits_of_the_program();
     refusals_in_order();
+    receivers();
     rules::all(&outcome(&after_h(&[])).1);
     properties::all();
     println!("selftest: all passed");

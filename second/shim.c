@@ -66,7 +66,7 @@ static void make_call(const struct head *head, u64 reply[6])
     } else if (head->call == 3) {
         relay_forwarded answer = relay_forward(x, a, y, b, (u8)head->first, (u8)head->second);
         reply[0] = answer.number, reply[1] = answer.detail, reply[2] = answer.place;
-        reply[3] = answer.deliveries;
+        reply[3] = answer.deliveries, reply[4] = answer.receivers;
     } else if (head->call == 4) {
         relay_drained answer = relay_drain(x, a, y, b, (u32)head->first);
         reply[0] = answer.number, reply[1] = answer.detail, reply[2] = answer.place;

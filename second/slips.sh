@@ -15,7 +15,7 @@ slip refuses-all calls.rs 's/    if state.len() == STATE_SIZE {/    if state.len
 slip state-as-found calls.rs 's/^    state.copy_from_slice(&network.bytes());//'
 slip first-event-only calls.rs 's/in events.chunks(EVENT_SIZE).enumerate() {/in events.chunks(EVENT_SIZE).enumerate().take(1) {/'
 slip first-round-only calls.rs 's/    while forwards < budget \&\&/    if forwards < budget \&\&/'
-slip invents-deliveries events.rs 's/^            deliveries += 1;/            deliveries += 2;/'
+slip invents-deliveries calls.rs 's/= receivers.len() as u32/= 2 * receivers.len() as u32/; s/= receivers.len() as u64/= 2 * receivers.len() as u64/'
 slip invents-rounds calls.rs 's/        if finished {/        if made > 0 {/'
 
 # soundness
@@ -93,13 +93,36 @@ slip tally-reset-early calls.rs 's/^    let (mut network, table) = match before_
 slip accepted-plus-one calls.rs 's/accepted: place }/accepted: place + 1 }/'
 slip order-3-4 calls.rs '/^fn before_events/,/^}/{s/^    events_length(events)?;//; s/^    let table = table_rows(table)?;/    let table = table_rows(table)?;\n    events_length(events)?;/}'
 slip order-4-20 calls.rs '/^fn before_forwards/,/^}/s/^    let table = table_rows(table)?;/    sound(state)?;\n    let table = table_rows(table)?;/'
-slip order-20-7 calls.rs 's/^    let result = before_forwards/    if state.len() == 5120 \&\& table.len() == 256 \&\& peer >= PEERS { return Forwarded { number: 7, detail: 0, place: 0, deliveries: 0 }; }\n    let result = before_forwards/'
+slip order-20-7 calls.rs 's/^    let result = before_forwards/    if state.len() == 5120 \&\& table.len() == 256 \&\& peer >= PEERS { return Forwarded::refused(refuse(7, 0)); }\n    let result = before_forwards/'
 slip round-unfinished calls.rs 's/^    (made, true)/    (made, made < budget)/'
 slip quiet-by-budget calls.rs 's/(forwards, rounds, network.pending_pairs().is_empty())/(forwards, rounds, forwards < budget)/'
 slip budget-16-bits calls.rs 's/^    let mut forwards = 0;/    let budget = budget % 65536; let mut forwards = 0;/'
 slip order-20-18 calls.rs '/^pub fn image(/,/^}/s/^    checked(read/    if image.len() != STATE_SIZE { return Checked { number: 18, detail: 0, place: 0 }; }\n    checked(read/'
 slip image-keeps-links calls.rs 's/^            pubs: record.pubs.clone(),/            pubs: record.pubs.clone(), neighbours: record.neighbours.clone(),/'
 slip copy-clears calls.rs '/^pub fn copy/,/^}/s/^    checked(read/    to.fill(0);\n    checked(read/'
+
+# E2, the receivers of a forward. The count is right where only the set is wrong, and the reverse. A set found before the message
+# moves is no slip: the sender is never its own neighbour.
+counted='s/let deliveries = receivers.len() as u32;/let deliveries = receivers.len() as u32'
+known='network.at(Peer(peer)).known_for(super::state::Topic(table[4 * message as usize]))'
+slip receivers-all-known calls.rs "$counted; let receivers = $known.copied().collect();/"
+slip receivers-still-pending calls.rs "$counted; let receivers = $known.filter(|q| network.at(**q).pending.contains(\&Message(message))).copied().collect();/"
+slip receivers-and-sender calls.rs "$counted; let receivers = receivers.into_iter().chain([Peer(peer)]).collect();/"
+slip receivers-lowest-only calls.rs "$counted; let receivers = receivers.into_iter().take(1).collect();/"
+slip receivers-31-bits standin.rs 's/receivers: word_of(&receivers)/receivers: word_of(\&receivers) \& 0x7fff_ffff/'
+slip receivers-missing standin.rs 's/receivers: word_of(&receivers)/receivers: 0/'
+slip count-of-the-known calls.rs "s/let deliveries = receivers.len() as u32/let deliveries = $known.count() as u32/"
+slip tally-adds-the-word calls.rs 's/+= receivers.len() as u64/+= u64::from(super::state::word_of(receivers))/'
+# Whom a refused forward would have reached; what is out of range is taken for what is left of it within.
+would='fn would(state: &[u8], table: &[u8], peer: u8, message: u8) -> BTreeSet<Peer> { let network = Network::parse(state); let (peer, message) = (peer % 32, Message(message % 64)); let lacks = |q: &&Peer| !network.at(**q).pending.contains(&message) && !network.at(**q).seen.contains(&message); network.at(Peer(peer)).known_for(super::state::Topic(table[4 * message.0 as usize] % 32)).filter(lacks).copied().collect() }'
+reaching() { # CONDITION: the edit by which a forward that is refused so names them
+    printf '%s' "s/^        Err(refusal) => Forwarded::refused(refusal),/        Err(refusal) if $1 => Forwarded { receivers: would(state, table, peer, message), ..Forwarded::refused(refusal) },\n&/; \$a $would"
+}
+slip refused-by-4-reaches calls.rs "$(reaching 'refusal.number == 4')"
+slip refused-by-7-reaches calls.rs "$(reaching 'refusal.number == 7')"
+slip refused-by-13-reaches calls.rs "$(reaching 'refusal.number == 13')"
+slip unsound-reaches calls.rs "$(reaching 'refusal.number >= 20')"
+slip refused-is-counted calls.rs 's/Err(refusal) => Forwarded::refused(refusal),/Err(refusal) if refusal.number == 13 => Forwarded { deliveries: 1, ..Forwarded::refused(refusal) },\n        &/'
 
 # 16 bits where more are needed
 slip answers-modulo-65536 standin.rs 's/CAnswer { number, detail, place, accepted }/CAnswer { number, detail, place: place % 65536, accepted: accepted % 65536 }/' '--only long'
@@ -125,7 +148,9 @@ slip writes-before-state standin.rs '/^pub unsafe extern "C" fn relay_drain/,/^}
 # demand 3 through the engine alone
 slip back-to-seen-orders events.rs 's/if !record.pending.contains(&message) && !record.seen.contains(&message) {/if !record.pending.contains(\&message) {/' '--only orders'
 slip drain-skips-31-orders calls.rs '/^pub fn round(/,/^}/s/^        forward_event(/        if peer.0 == 31 \&\& network.present(Peer(30)) { network.at_mut(peer).pending.remove(\&message); network.at_mut(peer).seen.insert(message); made += 1; continue; }\n        forward_event(/' '--only orders'
-slip forward-not-counted-orders calls.rs 's/            Forwarded { number: 0, detail: 0, place: 0, deliveries }/            Forwarded { number: 0, detail: 0, place: 0, deliveries: deliveries.min(3) }/' '--only orders'
+slip forward-not-counted-orders calls.rs 's/let deliveries = receivers.len() as u32/let deliveries = receivers.len().min(3) as u32/' '--only orders'
+slip receivers-all-known-orders events.rs 's/^    Ok(receivers)/    Ok(network.at(peer).known_for(table.topic(message)).copied().collect())/' '--only orders'
+slip receivers-sender-for-one-orders calls.rs "$counted; let receivers = if deliveries == 0 { receivers } else { receivers.into_iter().skip(1).chain([Peer(peer)]).collect() };/" '--only orders'
 
 # the run program
 slip limit-65535 program.rs 's/input.len() > INPUT_LIMIT/input.len() >= INPUT_LIMIT/'

@@ -9,6 +9,7 @@ mod model;
 use interface::{
     Answer as CAnswer, Checked as CChecked, Drained as CDrained, Forwarded as CForwarded, Tally as CTally,
 };
+use model::state::word_of;
 use model::{calls, Answer, Checked, Drained, Forwarded, Tally};
 use std::slice::{from_raw_parts, from_raw_parts_mut};
 
@@ -64,8 +65,9 @@ pub unsafe extern "C" fn relay_forward(
 ) -> CForwarded {
     let state = from_raw_parts_mut(state, state_length);
     let table = from_raw_parts(table, table_length);
-    let Forwarded { number, detail, place, deliveries } = calls::forward(state, table, peer, message);
-    CForwarded { number, detail, place, deliveries }
+    let Forwarded { number, detail, place, deliveries, receivers } =
+        calls::forward(state, table, peer, message);
+    CForwarded { number, detail, place, deliveries, receivers: word_of(&receivers) }
 }
 
 #[no_mangle]

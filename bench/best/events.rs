@@ -4,20 +4,27 @@ use super::{held, known, long, members, put_known, put_long, put_word, word};
 use super::{State, NEAR, PENDING, PRESENT, PUBS, SEEN, SUBS};
 use crate::engine::Tally;
 
-/// A forward that is accepted; answers its deliveries.
+/// The receivers of a forward as a set, and their number, which a run wants without the set.
+pub struct Given {
+    pub deliveries: u32,
+    pub receivers: u32,
+}
+
+/// A forward that is accepted.
 #[inline(always)]
-fn forward_one(n: &mut State, t: usize, p: usize, m: usize) -> u32 {
+fn forward_one(n: &mut State, t: usize, p: usize, m: usize) -> Given {
     let r = &mut n[p & 31];
     put_long(r, PENDING, long(r, PENDING) & !(1 << m));
     put_long(r, SEEN, long(r, SEEN) | 1 << m);
-    let mut count = 0;
+    let mut given = Given { deliveries: 0, receivers: 0 };
     for q in members(known(r, t)) {
         let r = &mut n[q];
         let free = !held(r) >> m & 1;
         put_long(r, PENDING, long(r, PENDING) | free << m);
-        count += free as u32;
+        given.deliveries += free as u32;
+        given.receivers |= (free as u32) << q;
     }
-    count
+    given
 }
 
 /// A state under a run: its records, who is present, and the table.
@@ -78,16 +85,27 @@ impl<T: Table> Net<'_, T> {
         0
     }
 
-    pub fn forward(&mut self, p: usize, m: usize, tally: &mut Tally) -> u8 {
+    /// A forward, or the refusal's number.
+    #[inline(always)]
+    pub fn give(&mut self, p: usize, m: usize) -> Result<Given, u8> {
         if !self.here(p) {
-            return 8;
+            return Err(8);
         }
         if long(&self.records[p], PENDING) >> m & 1 == 0 {
-            return 13;
+            return Err(13);
         }
-        tally.deliveries += u64::from(forward_one(self.records, self.table.topic(m), p, m));
-        tally.forwards += 1;
-        0
+        Ok(forward_one(self.records, self.table.topic(m), p, m))
+    }
+
+    fn forward(&mut self, p: usize, m: usize, tally: &mut Tally) -> u8 {
+        match self.give(p, m) {
+            Ok(given) => {
+                tally.deliveries += u64::from(given.deliveries);
+                tally.forwards += 1;
+                0
+            }
+            Err(number) => number,
+        }
     }
 
     /// The neighbours of p come to know that p subscribes to the topics.

@@ -40,18 +40,18 @@ impl Net {
         self.present >> p & 1 == 1
     }
 
-    /// The deliveries of a forward that is accepted.
+    /// The receivers of a forward that is accepted, as a set.
     pub fn forward(&mut self, t: usize, p: usize, m: usize) -> u32 {
         self.pending[p] &= !(1 << m);
         self.seen[p] |= 1 << m;
-        let mut count = 0;
+        let mut receivers = 0;
         for q in members(self.known[p * 32 + t]) {
             if (self.pending[q] | self.seen[q]) >> m & 1 == 0 {
                 self.pending[q] |= 1 << m;
-                count += 1;
+                receivers |= 1 << q;
             }
         }
-        count
+        receivers
     }
 
     fn link(&mut self, p: usize, who: u32) {
@@ -131,7 +131,7 @@ impl Net {
                 if self.pending[p] >> m & 1 == 0 {
                     return 13;
                 }
-                tally.deliveries += self.forward(topics[m] as usize, p, m) as u64;
+                tally.deliveries += u64::from(self.forward(topics[m] as usize, p, m).count_ones());
                 tally.forwards += 1;
             }
             3 | 4 => {

@@ -101,9 +101,9 @@ pub fn run(state: &mut [u8], table: &[u8], events: &[u8], tally: &mut Tally) -> 
     let mut answer = Answer { number: 0, detail: 0, place: 0, accepted: 0 };
     for (place, bytes) in events.chunks(EVENT_SIZE).enumerate() {
         match Event::parse(bytes).and_then(|event| Ok((apply(&mut network, &table, &event)?, event))) {
-            Ok((deliveries, event)) => {
+            Ok((receivers, event)) => {
                 answer.accepted += 1;
-                count(tally, &event, deliveries);
+                count(tally, &event, &receivers);
             }
             Err(number) => {
                 answer = Answer { number, detail: 0, place, accepted: place };
@@ -116,12 +116,12 @@ pub fn run(state: &mut [u8], table: &[u8], events: &[u8], tally: &mut Tally) -> 
 }
 
 /// "Produced and forwards are the accepted events of those kinds; deliveries is the sum of theirs."
-pub fn count(tally: &mut Tally, event: &Event, deliveries: u32) {
+pub fn count(tally: &mut Tally, event: &Event, receivers: &BTreeSet<Peer>) {
     match event {
         Event::Produce(..) => tally.produced += 1,
         Event::Forward(..) => {
             tally.forwards += 1;
-            tally.deliveries += u64::from(deliveries);
+            tally.deliveries += receivers.len() as u64;
         }
         _ => (),
     }
@@ -142,16 +142,17 @@ pub fn forward(state: &mut [u8], table: &[u8], peer: u8, message: u8) -> Forward
         if peer >= PEERS || message >= MESSAGES {
             return Err(refuse(7, 0));
         }
-        let deliveries = forward_event(&mut network, &table, Peer(peer), Message(message))
+        let receivers = forward_event(&mut network, &table, Peer(peer), Message(message))
             .map_err(|number| refuse(number, 0))?;
-        Ok((network, deliveries))
+        Ok((network, receivers))
     });
     match result {
-        Ok((network, deliveries)) => {
+        Ok((network, receivers)) => {
             state.copy_from_slice(&network.bytes());
-            Forwarded { number: 0, detail: 0, place: 0, deliveries }
+            let deliveries = receivers.len() as u32;
+            Forwarded { number: 0, detail: 0, place: 0, deliveries, receivers }
         }
-        Err(Refusal { number, detail, place }) => Forwarded { number, detail, place, deliveries: 0 },
+        Err(refusal) => Forwarded::refused(refusal),
     }
 }
 

@@ -106,11 +106,17 @@ pub fn is_new(network: &Network, message: Message) -> bool {
         .all(|record| !record.pending.contains(&message) && !record.seen.contains(&message))
 }
 
-/// Does one event, or says by which number it is refused and changes nothing. Answers the deliveries,
-/// which only a forward makes.
-pub fn apply(network: &mut Network, table: &Table, event: &Event) -> Result<u32, u8> {
+/// What an event that is done answers: the receivers of its message, whom only a forward has. The error is
+/// the number by which it is refused.
+pub type Done = Result<BTreeSet<Peer>, u8>;
+
+/// Done, with no message that anyone receives.
+const NOBODY: Done = Ok(BTreeSet::new());
+
+/// Does one event, or says by which number it is refused and changes nothing.
+pub fn apply(network: &mut Network, table: &Table, event: &Event) -> Done {
     match event {
-        Event::Skip => Ok(0),
+        Event::Skip => NOBODY,
         Event::Produce(peer, message) => produce(network, table, *peer, *message),
         Event::Forward(peer, message) => forward(network, table, *peer, *message),
         Event::Subscribe(peer, topics) => subscribe(network, *peer, topics),
@@ -121,7 +127,7 @@ pub fn apply(network: &mut Network, table: &Table, event: &Event) -> Result<u32,
 }
 
 /// "8, 10, 11, 12 | message becomes pending at its origin"
-fn produce(network: &mut Network, table: &Table, peer: Peer, message: Message) -> Result<u32, u8> {
+fn produce(network: &mut Network, table: &Table, peer: Peer, message: Message) -> Done {
     if !network.present(peer) {
         return Err(8);
     }
@@ -135,13 +141,13 @@ fn produce(network: &mut Network, table: &Table, peer: Peer, message: Message) -
         return Err(12);
     }
     network.at_mut(peer).pending.insert(message);
-    Ok(0)
+    NOBODY
 }
 
 /// "Forward of m by p: m moves from pending to seen at p; then each known subscriber of m's topic at p
-/// gets m pending, unless m is pending or seen there. Each peer so changed is one delivery". "origin and
-/// previous sender have no exemption."
-pub fn forward(network: &mut Network, table: &Table, peer: Peer, message: Message) -> Result<u32, u8> {
+/// gets m pending, unless m is pending or seen there. Each peer so changed is one delivery", and these peers
+/// are E2's receivers. "origin and previous sender have no exemption."
+pub fn forward(network: &mut Network, table: &Table, peer: Peer, message: Message) -> Done {
     if !network.present(peer) {
         return Err(8);
     }
@@ -150,21 +156,21 @@ pub fn forward(network: &mut Network, table: &Table, peer: Peer, message: Messag
     }
     network.at_mut(peer).pending.remove(&message);
     network.at_mut(peer).seen.insert(message);
-    let mut deliveries = 0;
+    let mut receivers = BTreeSet::new();
     let subscribers: Vec<Peer> = network.at(peer).known_for(table.topic(message)).copied().collect();
     for subscriber in subscribers {
         let record = network.at_mut(subscriber);
         if !record.pending.contains(&message) && !record.seen.contains(&message) {
             record.pending.insert(message);
-            deliveries += 1;
+            receivers.insert(subscriber);
         }
     }
-    Ok(deliveries)
+    Ok(receivers)
 }
 
 /// "8 | topics join subs; neighbours' records follow". "An empty topic set is allowed, as is subscribing
 /// twice."
-fn subscribe(network: &mut Network, peer: Peer, topics: &BTreeSet<Topic>) -> Result<u32, u8> {
+fn subscribe(network: &mut Network, peer: Peer, topics: &BTreeSet<Topic>) -> Done {
     if !network.present(peer) {
         return Err(8);
     }
@@ -174,11 +180,11 @@ fn subscribe(network: &mut Network, peer: Peer, topics: &BTreeSet<Topic>) -> Res
             network.at_mut(neighbour).learn(*topic, peer);
         }
     }
-    Ok(0)
+    NOBODY
 }
 
 /// "8 | topics leave subs; neighbours' records follow"
-fn unsubscribe(network: &mut Network, peer: Peer, topics: &BTreeSet<Topic>) -> Result<u32, u8> {
+fn unsubscribe(network: &mut Network, peer: Peer, topics: &BTreeSet<Topic>) -> Done {
     if !network.present(peer) {
         return Err(8);
     }
@@ -188,11 +194,11 @@ fn unsubscribe(network: &mut Network, peer: Peer, topics: &BTreeSet<Topic>) -> R
             network.at_mut(neighbour).unlearn(*topic, peer);
         }
     }
-    Ok(0)
+    NOBODY
 }
 
 /// "8, 14 | record becomes zero; neighbours drop the peer and its subscriptions"
-fn leave(network: &mut Network, peer: Peer) -> Result<u32, u8> {
+fn leave(network: &mut Network, peer: Peer) -> Done {
     if !network.present(peer) {
         return Err(8);
     }
@@ -206,7 +212,7 @@ fn leave(network: &mut Network, peer: Peer) -> Result<u32, u8> {
             network.at_mut(neighbour).unlearn(*topic, peer);
         }
     }
-    Ok(0)
+    NOBODY
 }
 
 /// "9, 15, 16 | record made with nothing pending or seen; both sides record link and subscriptions"
@@ -216,7 +222,7 @@ fn join(
     subs: &BTreeSet<Topic>,
     pubs: &BTreeSet<Topic>,
     neighbours: &BTreeSet<Peer>,
-) -> Result<u32, u8> {
+) -> Done {
     if network.present(peer) {
         return Err(9);
     }
@@ -244,5 +250,5 @@ fn join(
         }
     }
     *network.at_mut(peer) = record;
-    Ok(0)
+    NOBODY
 }

@@ -80,6 +80,18 @@ pub fn set_into<N: Number>(set: &BTreeSet<N>, bytes: &mut [u8]) {
     }
 }
 
+/// A set of peers as the word that an answer has: "bit i stands for number i".
+pub fn peers_of(word: u32) -> BTreeSet<Peer> {
+    set_from(&word.to_le_bytes())
+}
+
+/// The reverse of `peers_of`.
+pub fn word_of(peers: &BTreeSet<Peer>) -> u32 {
+    let mut bytes = [0; 4];
+    set_into(peers, &mut bytes);
+    u32::from_le_bytes(bytes)
+}
+
 /// One peer record as it stands in the bytes, sound or not.
 #[derive(Clone, Debug, PartialEq, Eq, Default)]
 pub struct Record {

@@ -7,6 +7,7 @@ use Prim.Native.Nat.{ℕ, _+_, _<_}
 use native.Mathlib.Omega.{arith}
 use lib.Dec.{eqb, ltb}
 use borrow.Author.Tests.{eq-eqb, eqb-true, ltb-true}
+use Rattle.sets.specs.Set.{size}
 use Rattle.sets.specs.laws.Bools.{clash, and-yes}
 use Rattle.network.specs.declared.Network.{Network}
 use Rattle.network.specs.declared.Table.{Table}
@@ -32,7 +33,7 @@ use Rattle.pages.specs.RunReached.{reached, turnAt}
 
 -- an accepted event, alone in its list
 pub run-one : (b : Table) (n : Network) (e : Event) → EventFits e → refusal n b e ≡ 0
-    → runAll (recordOf e) b n ≡ allDone 1 (talliedOf zeroTally (kindOf e) (receiversOf n b e)) (effect n b e)
+    → runAll (recordOf e) b n ≡ allDone 1 (talliedOf zeroTally (kindOf e) (size (receiversOf n b e))) (effect n b e)
 unfolding runAll runFrom turnOf turnedOf turned after ifAccepted
 run-one b n e f z = rw (record-length e, read-record e f, z)
 

@@ -5,7 +5,7 @@
 -- How to read it: `x ≡ y`: x is y; `×`: and; `→`: then; `→ ⊥`: never, or not. `has w i`: the set w has the member i. Assumes nothing.
 use mathlib.Core.Path.{_≡_}
 use mathlib.Core.List.{List}
-use Prim.Native.Nat.{ℕ, _<_}
+use Prim.Native.Nat.{ℕ}
 use Rattle.sets.specs.Set.{has, size, count}
 use Rattle.network.specs.Network.{peer, message}
 use Rattle.network.specs.Sound.{Sound}

@@ -10,7 +10,7 @@ use Rattle.network.specs.declared.Peer.{Peer}
 use Rattle.network.specs.declared.Message.{Message}
 use Rattle.network.specs.declared.Network.{Network}
 use Rattle.network.specs.declared.Table.{Table}
-use Rattle.network.specs.Network.{present, subscribed, linked, pending, saw, knows, topicOf}
+use Rattle.network.specs.Network.{present, subscribed, linked, pending, saw, topicOf}
 
 pub record Receives (n o : Network) (b : Table) (p : Peer) (m : Message) (to : ℕ) : Type 0 where
   -- q is in the set exactly if q is linked to p, is subscribed to m's topic, and has m neither pending nor seen

@@ -24,7 +24,6 @@ use Rattle.floodnet.specs.laws.StepLaws.{forward-met}
 use Rattle.transitions.specs.Receivers.{Receives}
 use Rattle.transitions.specs.laws.PageLaws.{floodnet-page}
 use Rattle.engine.specs.declared.Forwarded.{Forwarded}
-use Rattle.engine.specs.Start.{beginOf}
 use Rattle.engine.specs.Alone.{forwardedBy, forwardOf, Gives}
 use Rattle.pages.specs.RunPage.{netIn, tableIn}
 use Rattle.pages.specs.laws.ForwardRun.{Passed, forward-passed}

@@ -8,14 +8,17 @@ use lib.ListN.{length}
 use Rattle.network.specs.declared.Network.{Network}
 use Rattle.network.specs.declared.Listed.{Listed}
 use Rattle.network.specs.declared.Looked.{Looked}
-use Rattle.network.specs.Network.{Rows}
-use Rattle.network.specs.State.{blankNet, opened, openedBy, openOf, Opens}
+use Rattle.endian.specs.laws.Le.{Bytes}
+use Rattle.network.specs.Network.{withPending, withSeen, Rows}
+use Rattle.network.specs.State.{blankNet, opened, openedBy, openOf, Opens, bytesOf}
+use Rattle.network.specs.Storing.{putMessages}
+use Rattle.network.specs.laws.Messages.{put-messages}
 use Rattle.network.specs.Rows.{listOf}
 use Rattle.engine.specs.declared.Begun.{Begun}
 use Rattle.engine.specs.declared.Started.{Started}
 use Rattle.engine.specs.Start.{refusedAt, unstartedAt, begunAs, beginOf}
 use Rattle.engine.specs.laws.StartLaws.{begin-unsound, begin-0}
-use Rattle.engine.specs.laws.StartFacts.{begin-by, begin-rows, begin-long}
+use Rattle.engine.specs.laws.StartFacts.{begin-by, begin-rows, begin-long, begin-bytes}
 
 -- what was read, by its parts
 abbrev pub begunBy : Started → Network → Begun
@@ -73,3 +76,13 @@ module _ (s t : List ℕ) (events : ℕ) where
 
     pub started-long : r .number ≡ 0 → length s ≡ 5120
     started-long z = begin-long s t events (sym (ap (λ (x : Begun). x .number) e) ∙ z)
+
+    -- past the refusals the state has the bytes of the network
+    pub started-bytes : Bytes s → r .number ≡ 0 → bytesOf n ≡ s
+    started-bytes h z =
+        let k = started z in
+        ap (λ (x : Begun). bytesOf (x .network)) k ∙ begin-bytes s t events h (sym (ap (λ (x : Begun). x .number) k) ∙ z)
+
+-- pending and seen, written into the bytes of a network
+pub saved : {s l : List ℕ} (n : Network) (pending seen : List ℕ) → bytesOf n ≡ s → l ≡ putMessages 32 s pending seen → l ≡ bytesOf (withSeen (withPending n pending) seen)
+saved n pending seen b k = k ∙ ap (λ (x : List ℕ). putMessages 32 x pending seen) (sym b) ∙ put-messages n pending seen

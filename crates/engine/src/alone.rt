@@ -3,8 +3,11 @@ ghost use mathlib.Core.Path.{_≡_};
 ghost use mathlib.Core.List.{List};
 ghost use Prim.Native.Nat.{ℕ, _<_};
 ghost use lib.ListN.{length, getD};
-ghost use Rattle.network.specs.Network.{mk, table};
+ghost use Rattle.network.specs.declared.Network.{Network};
+ghost use Rattle.network.specs.Network.{withPresent, table};
+ghost use Rattle.network.specs.State.{bytesOf};
 ghost use Rattle.network.specs.Rules.{checked};
+ghost use Rattle.floodnet.specs.Lent.{withMessages};
 ghost use Rattle.engine.specs.Alone.{checkOf, copyOf, copiedOf, forwardOn, forwardOf};
 ghost use Rattle.engine.specs.Alone.{forwardedBy, Gives};
 use crate::Forwarded;
@@ -100,24 +103,24 @@ fn forwarded(number: u8, place: usize, detail: u8, receivers: u32) -> Forwarded
     }
 }
 
-// The forward on lent arrays, past the refusals of what was read; accepted, the state is written from them.
-fn forward_saved<'a>(
+// The forward on lent arrays, past the refusals of what was read, the state being the bytes of a network that has them; accepted, what
+// concerns messages is written from them.
+fn forward_saved(
     state: &mut [u8],
     present: u32,
-    pubs: &'a [u32; 32],
-    subs: &'a [u32; 32],
-    neighbours: &'a [u32; 32],
     pending: &mut [u64; 32],
     seen: &mut [u64; 32],
-    known: &'a [u32; 1024],
+    known: &[u32; 1024],
     topics: &[u8; 64],
     peer: u8,
     message: u8,
 ) -> Forwarded
     requires { ⌜ (length (now state) ≡ 5120) × ((i : ℕ) → getD (now topics) i 0 < 32) ⌝ }
-    ensures { λ r. ⌜ ((origins : List ℕ) → Gives r (now (state .exit)) (forwardOn (now (state .entry))
-        (mk present (now (pubs .entry)) (now (subs .entry)) (now (neighbours .entry)) (now (pending .entry)) (now (seen .entry))
-        (now (known .entry))) (table (now (topics .entry)) origins) peer message)) ⌝ }
+    ensures { λ r. ⌜ ((n : Network) (origins : List ℕ) → bytesOf
+        (withPresent (withMessages n (now (pending .entry)) (now (seen .entry)) (now (known .entry))) present) ≡ now (state .entry) →
+        Gives r (now (state .exit)) (forwardOn (now (state .entry))
+        (withPresent (withMessages n (now (pending .entry)) (now (seen .entry)) (now (known .entry))) present)
+        (table (now (topics .entry)) origins) peer message)) ⌝ }
 {
     if peer > 31 {
         return forwarded(7, 0, 0, 0);
@@ -137,16 +140,7 @@ fn forward_saved<'a>(
     if turned.number != 0 {
         return forwarded(turned.number, 0, 0, 0);
     }
-    network::save(
-        present,
-        &*pubs,
-        &*subs,
-        &*neighbours,
-        &*pending,
-        &*seen,
-        &*known,
-        &mut *state,
-    );
+    network::save_messages(&*pending, &*seen, &mut *state);
     forwarded(0, 0, 0, turned.receivers)
 }
 
@@ -182,9 +176,6 @@ pub extern "C" fn relay_forward(state: &mut [u8], table: &[u8], peer: u8, messag
     forward_saved(
         state,
         begun.present,
-        &pubs,
-        &subs,
-        &neighbours,
         &mut pending,
         &mut seen,
         &known,

@@ -62,15 +62,6 @@ pub extern "C" fn relay_drain(state: &mut [u8], table: &[u8], budget: u32) -> Dr
     let rows = begun.table;
     let topics = rows.topics;
     let drains = drain::drain_all(&mut pending, &mut seen, &known, &topics, budget);
-    network::save(
-        begun.present,
-        &pubs,
-        &subs,
-        &neighbours,
-        &pending,
-        &seen,
-        &known,
-        state,
-    );
+    network::save_messages(&pending, &seen, state);
     done(drains)
 }

@@ -18,3 +18,10 @@ putHead l p head pubs subs neighbours pending seen =
 unfoldable pub putRow : ℕ → List ℕ → List ℕ → ℕ → List ℕ
 putRow zero l row p = l
 putRow (suc t) l row p = putLe 4 (putRow t l row p) (160 * p + 32 + 4 * t) (getD row t 0)
+
+-- ---- what concerns messages
+
+-- the buffer with "16-23 pending; 24-31 seen" of the first p records
+unfoldable pub putMessages : ℕ → List ℕ → List ℕ → List ℕ → List ℕ
+putMessages zero l pending seen = l
+putMessages (suc p) l pending seen = putLe 8 (putLe 8 (putMessages p l pending seen) (160 * p + 16) (getD pending p 0)) (160 * p + 24) (getD seen p 0)

@@ -2,6 +2,7 @@
 pub mod Faults
 pub mod Layout
 pub mod Listing
+pub mod Messages
 pub mod Network
 pub mod OpenedSound
 pub mod Opening

@@ -14,6 +14,7 @@ ghost use mathlib.Core.Path.{_≡_};
 ghost use Prim.Native.Nat.{_+_, _*_, _<_};
 ghost use lib.ListN.{length, getD};
 ghost use Rattle.network.specs.Network.{mk, topic};
+ghost use Rattle.network.specs.Storing.{putMessages};
 ghost use Rattle.network.specs.State.{blankNet, opened, openOf, Opens, bytesOf, writeOf, writtenOf};
 ghost use Rattle.network.specs.Rows.{blankTable, listed, listOf};
 
@@ -216,6 +217,20 @@ pub fn save<'a>(
         );
         store::row(&mut *state, store::row_of(known, p), p);
         i += 1;
+    }
+}
+
+// Writes pending and seen of every record into a state; its other bytes stay. Over the bytes of a network these are the bytes of that network
+// with these words (`put-messages`, specs/laws/Messages.antt).
+pub fn save_messages(pending: &[u64; 32], seen: &[u64; 32], state: &mut [u8])
+    requires { ⌜ length (now state) ≡ 5120 ⌝ }
+    ensures { λ r. ⌜ now (state .exit) ≡ putMessages 32 (now (state .entry)) (now (pending .entry)) (now (seen .entry)) ⌝ }
+{
+    let mut p: usize = 0;
+    while p < 32 {
+        endian::put8(&mut *state, 160 * p + 16, pending[p]);
+        endian::put8(&mut *state, 160 * p + 24, seen[p]);
+        p += 1;
     }
 }
 

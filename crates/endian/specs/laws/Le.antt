@@ -76,6 +76,14 @@ before-putLe (suc n) bs at x i h =
     before-putLe n (set bs at (x % 256)) (suc at) (x / 256) i (omega arith)
     ∙ getD-set-other bs at i (x % 256) 0 (λ e. omega arith)
 
+-- Nor is one behind the number.
+pub after-putLe : (n : ℕ) (bs : List ℕ) (at x i : ℕ) → at + n ≤ i → getD (putLe n bs at x) i 0 ≡ getD bs i 0
+unfolding putLe
+after-putLe zero bs at x i h = refl
+after-putLe (suc n) bs at x i h =
+    after-putLe n (set bs at (x % 256)) (suc at) (x / 256) i (omega arith)
+    ∙ getD-set-other bs at i (x % 256) 0 (λ e. omega arith)
+
 -- What is read depends on its n bytes alone.
 pub le-same : (n : ℕ) (bs cs : List ℕ) (at : ℕ) → ((i : ℕ) → at ≤ i → i < at + n → getD bs i 0 ≡ getD cs i 0) → le n bs at ≡ le n cs at
 unfolding le

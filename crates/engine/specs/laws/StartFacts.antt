@@ -11,10 +11,11 @@ use Rattle.endian.specs.laws.Le.{Bytes}
 use Rattle.network.specs.Network.{Rows}
 use Rattle.network.specs.Sound.{Sound}
 use Rattle.network.specs.declared.Listed.{Listed}
-use Rattle.network.specs.State.{openOf}
+use Rattle.network.specs.State.{openOf, bytesOf}
 use Rattle.network.specs.Rows.{badRow, listOf}
 use Rattle.network.specs.laws.Listing.{listed-rows, blank-rows}
 use Rattle.network.specs.laws.OpenedSound.{opened-by, opened-sound, blank-sound}
+use Rattle.network.specs.laws.Trips.{read-write}
 use Rattle.engine.specs.declared.Begun.{Begun}
 use Rattle.engine.specs.Start.{refusedAt, beginOf}
 
@@ -64,6 +65,11 @@ module _ (s t : List ℕ) (events : ℕ) where
   pub begin-long : beginOf s t events .number ≡ 0 → length s ≡ 5120
   begin-long =
       begin-by (λ (g : Begun). g .number ≡ 0 → length s ≡ 5120) (λ k p d h z. absurd (h z)) λ a b c d z. a
+
+  -- and its bytes are those of the network that was read
+  pub begin-bytes : Bytes s → beginOf s t events .number ≡ 0 → bytesOf (beginOf s t events .network) ≡ s
+  begin-bytes h =
+      begin-by (λ (g : Begun). g .number ≡ 0 → bytesOf (g .network) ≡ s) (λ k p d x z. absurd (x z)) λ a b c d z. read-write s h d
 
   -- the network is sound, also where something was refused
   pub begin-sound : Bytes s → Sound (beginOf s t events .network)

@@ -1,7 +1,7 @@
 -- `engine::draining::relay_drain` meets its contract. Assumes nothing.
 use borrow.Author.Needs.{needs}
 use Rattle.engine.specs.laws.DrainingLaws.{drain-refused, drain-done}
-use Rattle.engine.proofs.Lent.{started, started-rows, started-long}
+use Rattle.engine.proofs.Lent.{started, started-rows, started-long, started-bytes, saved}
 use Rattle.engine.proofs.draining.relay_drain.Statement.{statement}
 use Rattle.engine.proofs.draining.relay_drain.Tie as tie
 
@@ -13,8 +13,8 @@ abbrev begun : tie.After-topics2 → tie.After-start
 begun c = read c .before .before
 
 -- from where the state is written: where the drain was made
-abbrev drained : tie.After-save-arg → tie.After-drain-all
-drained c = c .before .before .before .before .before .before .before
+abbrev drained : tie.After-save-messages-arg → tie.After-drain-all
+drained c = c .before .before .before
 
 -- from where the reading begins: the bytes that are read
 abbrev bytes : tie.After-known → tie.After-slice-known
@@ -35,8 +35,8 @@ returns c = drain-refused _ _ _ (c .before .before .before .start .ensures) (c .
 drain-all-requires : tie.Need-drain-all-requires
 drain-all-requires c κs = started-rows _ _ _ (begun c .start .result) _ (begun c .start .ensures) .topics-fit
 
-save-requires : tie.Need-save-requires
-save-requires c κs =
+save-messages-requires : tie.Need-save-messages-requires
+save-messages-requires c κs =
     started-long _ _ _ (begun (drained c .before) .start .result) _ (begun (drained c .before) .start .ensures) (read (drained c .before) .if1 .left)
 
 done-requires : tie.Need-done-requires
@@ -52,7 +52,7 @@ returns-2 c =
     let at = begun (d .before) in
     let z = read (d .before) .if1 .left in
     drain-done _ _ _ _ (λ i. bytes (at .before) .slice-known .given i .fits) (started _ _ _ (at .start .result) _ (at .start .ensures) z) z (d .drain-all .ensures)
-    (s .save .ensures) (c .done .ensures)
+    (saved _ _ _ (started-bytes _ _ _ (at .start .result) _ (at .start .ensures) (λ i. bytes (at .before) .slice-known .given i .fits) z) (s .save-messages .ensures)) (c .done .ensures)
 
 pub relay-drain-spec : {M : Type 1} → statement M
 relay-drain-spec =
@@ -63,7 +63,7 @@ relay-drain-spec =
     same-length
     returns
     drain-all-requires
-    save-requires
+    save-messages-requires
     done-requires
     same-length-2
     returns-2)

@@ -3,9 +3,9 @@ use borrow.Author.Needs.{needs}
 use mathlib.Core.Path.{_≡_, refl, ap, _∙_}
 use Prim.Native.Nat.{_-_, _≤_}
 use native.Mathlib.Omega.{arith}
+use lib.ListN.{length}
 use Rattle.network.specs.Storing.{putMessages}
 use Rattle.network.specs.laws.Messages.{length-putMessages, putMessages-more}
-use lib.ListN.{length}
 use Rattle.network.proofs.save_messages.Statement.{statement}
 use Rattle.network.proofs.save_messages.Tie as tie
 

@@ -1,5 +1,5 @@
 -- Pending and seen, written into the bytes of a network: the bytes of that network with these words. Assumes nothing.
-use mathlib.Core.Path.{_≡_, refl, sym, ap, subst, _∙_}
+use mathlib.Core.Path.{_≡_, refl, sym, ap, _∙_}
 use mathlib.Core.Logic.{_⊎_, inl, inr}
 use mathlib.Core.List.{List}
 use Prim.Native.Nat.{ℕ, zero, suc, _+_, _*_, _/_, _%_, _^_, _≤_, _<_}
@@ -15,7 +15,7 @@ use Rattle.network.specs.declared.Network.{Network}
 use Rattle.network.specs.Network.{peer, withPending, withSeen}
 use Rattle.network.specs.State.{wordAt, wordOf, byteOf, bytesOf}
 use Rattle.network.specs.Storing.{putMessages}
-use Rattle.network.specs.laws.Storing.{word-of, filled-put8}
+use Rattle.network.specs.laws.Storing.{filled-messages}
 
 -- the loop that writes them
 pub length-putMessages : (p : ℕ) (l pending seen : List ℕ) → length (putMessages p l pending seen) ≡ length l
@@ -67,23 +67,16 @@ module _ (n : Network) (pending seen : List ℕ) where
       first i b (yes d) = o .front .front i d
       first i b (no d) = o .back i (omega arith) (omega arith) ∙ sym (byte-same i (h i (omega arith) b))
 
-  -- eight bytes are stored
-  over-put8 : (j : ℕ) {l : List ℕ} (at x : ℕ) → at ≡ 4 * j → j < 1279 → Over at l → x % 2 ^ 32 ≡ wordOf m j → x / 2 ^ 32 ≡ wordOf m (j + 1) → Over (at + 8) (putLe 8 l at x)
-  over-put8 j {l} at x a b o lo hi =
-      record { front = filled-put8 m j at x a b (o .front) lo hi; back = λ i c d. after-putLe 8 l at x i c ∙ o .back i (omega arith) d }
-
-  over-to : {k : ℕ} {l : List ℕ} (j : ℕ) → Over k l → k ≡ j → Over j l
-  over-to {k} {l} j o e = subst (λ (i : ℕ). Over i l) e o
-
   -- one record more
   over-more : (p : ℕ) {l : List ℕ} → p < 32 → Over (160 * p) l → Over (160 * suc p) (putLe 8 (putLe 8 l (160 * p + 16) (getD pending p 0)) (160 * p + 24) (getD seen p 0))
-  unfolding m wordAt
+  unfolding m
   over-more p {l} b o =
-      let w : (k : ℕ) → k < 40 → wordAt m (peer p) k ≡ wordOf m (40 * p + k) = λ k c. sym (word-of m p k c) in
-      let o0 = over-same (160 * p + 16) o (omega arith) (omega arith) (λ i c d. inl (omega arith)) in
-      let o1 = over-to (160 * p + 24) (over-put8 (40 * p + 4) (160 * p + 16) (getD pending p 0) (omega arith) (omega arith) o0 (w 4 (omega arith)) (w 5 (omega arith) ∙ ap (wordOf m) (omega arith))) (omega arith) in
-      let o2 = over-to (160 * p + 32) (over-put8 (40 * p + 6) (160 * p + 24) (getD seen p 0) (omega arith) (omega arith) o1 (w 6 (omega arith)) (w 7 (omega arith) ∙ ap (wordOf m) (omega arith))) (omega arith) in
-      over-same (160 * suc p) o2 (omega arith) (omega arith) (λ i c d. inr (omega arith))
+      let before = over-same (160 * p + 16) o (omega arith) (omega arith) (λ i c d. inl (omega arith)) in
+      let written : Over (160 * p + 32) (putLe 8 (putLe 8 l (160 * p + 16) (getD pending p 0)) (160 * p + 24) (getD seen p 0)) = record {
+        front = filled-messages m p b (before .front);
+        back = λ i c d. after-putLe 8 _ (160 * p + 24) _ i (omega arith) ∙ after-putLe 8 l (160 * p + 16) _ i (omega arith) ∙ before .back i (omega arith) d;
+      } in
+      over-same (160 * suc p) written (omega arith) (omega arith) (λ i c d. inr (omega arith))
 
   over-all : (p : ℕ) → p ≤ 32 → Over (160 * p) (putMessages p (bytesOf n) pending seen)
   unfolding putMessages bytesOf

@@ -102,6 +102,15 @@ pub putRow-more : (t : ℕ) (l row : List ℕ) (p : ℕ) {r : List ℕ} → r �
 unfolding putRow
 putRow-more t l row p e = rw add-one (ap (λ (x : List ℕ). putLe 4 x (160 * p + 32 + 4 * t) (getD row t 0)) e)
 
+-- pending and seen of a record are stored
+pub filled-messages : (n : Network) (p : ℕ) {l : List ℕ} → p < 32 → Filled 5120 (byteOf n) (160 * p + 16) l
+    → Filled 5120 (byteOf n) (160 * p + 32) (putLe 8 (putLe 8 l (160 * p + 16) (pendingOf n (peer p))) (160 * p + 24) (seenOf n (peer p)))
+unfolding wordAt
+filled-messages n p b f =
+    let w : (k : ℕ) → k < 40 → wordAt n (peer p) k ≡ wordOf n (40 * p + k) = λ k c. sym (word-of n p k c) in
+    let s = filled-to (160 * p + 24) (filled-put8 n (40 * p + 4) (160 * p + 16) (pendingOf n (peer p)) (omega arith) (omega arith) f (w 4 (omega arith)) (w 5 (omega arith) ∙ ap (wordOf n) (omega arith))) (omega arith) in
+    filled-to (160 * p + 32) (filled-put8 n (40 * p + 6) (160 * p + 24) (seenOf n (peer p)) (omega arith) (omega arith) s (w 6 (omega arith)) (w 7 (omega arith) ∙ ap (wordOf n) (omega arith))) (omega arith)
+
 -- the front of the buffer after each
 pub filled-head : (n : Network) (p : ℕ) {l : List ℕ} → p < 32 → Filled 5120 (byteOf n) (160 * p) l
     → Filled 5120 (byteOf n) (160 * p + 32) (putHead l p (headOf n (peer p)) (pubsOf n (peer p)) (subsOf n (peer p)) (neighboursOf n (peer p)) (pendingOf n (peer p)) (seenOf n (peer p)))
@@ -112,8 +121,7 @@ filled-head n p {l} b f =
     let s1 = filled-to (160 * p + 8) (filled-put4 n (40 * p + 1) (160 * p + 4) (pubsOf n (peer p)) (omega arith) (omega arith) s0 (w 1 (omega arith))) (omega arith) in
     let s2 = filled-to (160 * p + 12) (filled-put4 n (40 * p + 2) (160 * p + 8) (subsOf n (peer p)) (omega arith) (omega arith) s1 (w 2 (omega arith))) (omega arith) in
     let s3 = filled-to (160 * p + 16) (filled-put4 n (40 * p + 3) (160 * p + 12) (neighboursOf n (peer p)) (omega arith) (omega arith) s2 (w 3 (omega arith))) (omega arith) in
-    let s4 = filled-to (160 * p + 24) (filled-put8 n (40 * p + 4) (160 * p + 16) (pendingOf n (peer p)) (omega arith) (omega arith) s3 (w 4 (omega arith)) (w 5 (omega arith) ∙ ap (wordOf n) (omega arith))) (omega arith) in
-    filled-to (160 * p + 32) (filled-put8 n (40 * p + 6) (160 * p + 24) (seenOf n (peer p)) (omega arith) (omega arith) s4 (w 6 (omega arith)) (w 7 (omega arith) ∙ ap (wordOf n) (omega arith))) (omega arith)
+    filled-messages n p b s3
 
 pub filled-row : (n : Network) (p t : ℕ) {l row : List ℕ} → p < 32 → t ≤ 32 → row ≡ tab 32 (λ (u : ℕ). getD (n .known) (p * 32 + u) 0)
     → Filled 5120 (byteOf n) (160 * p + 32) l → Filled 5120 (byteOf n) (160 * p + 32 + 4 * t) (putRow t l row p)

@@ -69,7 +69,7 @@ pub record RunDone (s t ev : List ℕ) (old : Tally) (r : Answer) (s′ : List �
       → (r .place ≡ r .accepted) × (r .accepted < length ev / 16) × (r .number ≡ turnAt ev (tableIn t) (netIn s) (r .place) .number)
   -- "the state is that after the events before it": these, run alone on the same bytes, are all accepted, with the same state and tally
   pub before : runOf s t (take (16 * r .accepted) ev) old ≡ record { answer = answered 0 0 0 (r .accepted); tally = new; state = s′ }
-  -- the tally is of the accepted events alone: how many are produces, how many forwards, and how many received one, over all forwards
+  -- the tally is of the accepted events alone: how many are produces, how many forwards, and, over all forwards, how many received it
   pub produced : new .produced ≡ count (r .accepted) (λ i. alike (kindAt ev i) Kind.Produce)
   pub forwards : new .forwards ≡ count (r .accepted) (λ i. alike (kindAt ev i) Kind.Forward)
   pub deliveries : new .deliveries ≡ sum (r .accepted) (λ i. size (turnAt ev (tableIn t) (netIn s) i .receivers))

@@ -7,46 +7,19 @@ use native.Mathlib.Decide.{ℕ-discrete}
 use lib.Dec.{eqb}
 use lib.ListN.{getD, set}
 use borrow.Author.Tests.{eq-eqb, eqb-true}
-use Rattle.sets.specs.Set.{has, union, meet, minus, only, sift, lowest, when, puts}
+use Rattle.sets.specs.Set.{has, union, meet, minus, only, sift, lowest}
 use Rattle.sets.specs.laws.Bools.{clash, bool-ext, and-no, eqb-same, ne-eqb}
-use Rattle.sets.specs.laws.Members.{members, has-meet, has-minus, has-none, has-with, has-with-other, has-without, has-without-other, ext}
+use Rattle.sets.specs.laws.Members.{membership, has-meet, has-minus, has-none, has-without, has-without-other, ext}
 use Rattle.sets.specs.laws.Bounds.{minus-lt}
 use Rattle.sets.specs.laws.Build.{sift-lt, has-sifted, has-puts}
 use Rattle.sets.specs.laws.Lowest.{lowest-has, lowest-lt}
-use Rattle.sets.specs.laws.Visits.{visit-new}
 use Rattle.lists.specs.Edit.{edit}
-use Rattle.lists.specs.laws.Edit.{edit-none}
-use Rattle.floodnet.specs.laws.CodeVisit.{edit-store, edit-then, Along, along-more}
+use Rattle.lists.specs.laws.Edit.{edit-none, edit-then}
 use Rattle.drain.specs.AtOnce.{gives, OwnTopics, AllFiled, reach, spread, AtOnce}
 
 -- those of s that do not hold it
 pub has-left : (s : ℕ) (holds : ℕ → Bool) → s < 2 ^ 32 → (q : ℕ) → has (minus s (sift 32 s holds)) q ≡ has s q && not (has s q && holds q)
 has-left s holds b q = has-minus s (sift 32 s holds) q ∙ ap (λ (x : Bool). has s q && not x) (has-sifted 32 s holds b q)
-
--- nobody gets nothing
-pub gives-none : (w : ℕ) (f : List ℕ) (i x : ℕ) → gives w f 0 i x ≡ x
-unfolding gives when puts
-gives-none w f i x = ap (λ (b : Bool). when b (puts (minus w (getD f i 0))) x) (has-none i)
-
--- a turn: q gets its
-pub giving : {s left left′ q v : ℕ} {l₀ l : List ℕ} (w : ℕ) (f : List ℕ) → Along s left (gives w f) l₀ l → 0 < left → q ≡ lowest 32 left
-    → left′ ≡ minus left (only (lowest 32 left)) → v ≡ union (getD l q 0) (minus w (getD f q 0)) → Along s left′ (gives w f) l₀ (set l q v)
-unfolding gives when puts
-giving {s} {left} {left′} {q} {v} {l₀} {l} w f a p eq el ev =
-    along-more a p eq el
-    (ap (set l q) ev ∙ ap (λ (k : List ℕ). set k q (union (getD k q 0) mine)) (a .made)
-    ∙ edit-store (gives w f t) (gives w f (union t (only q))) (λ x. union x mine) l₀ q
-    (λ i d x. ap (λ (b : Bool). when b (puts (minus w (getD f i 0))) x) (has-with-other t q i (λ (e : q ≡ i). d (sym e))))
-    (λ x. ap (λ (b : Bool). when b (puts mine) x) (has-with t q) ∙ sym (ap (λ (b : Bool). union (when b (puts mine) x) mine) new)))
-  where
-    t : ℕ
-    t = minus s left
-
-    mine : ℕ
-    mine = minus w (getD f q 0)
-
-    new : has t q ≡ false
-    new = visit-new left s q (ap (has left) eq ∙ lowest-has 32 left p (a .below))
 
 -- p's messages of topic t: those of todo that the word of t has
 of-words : {ts words : List ℕ} {used t w : ℕ} (todo : ℕ) → OwnTopics ts words → AllFiled ts words used todo → t < 32 → w ≡ meet todo (getD words t 0)
@@ -89,7 +62,7 @@ module _ {g ts words f : List ℕ} {p used todo : ℕ} (b : todo < 2 ^ 64) (file
     below = bu;
     made =
         edit-none (λ q x. union x (minus (reach g ts p (past ts todo used) q) (getD f q 0))) e
-        (λ i. ext _ _ (λ j. simp (members, has-reach g ts p (past ts todo used) i (past-lt ts todo used), has-past ts todo b used j, none j) (or-false (has (getD e i 0) j))));
+        (λ i. ext _ _ (λ j. simp (membership, has-reach g ts p (past ts todo used) i (past-lt ts todo used), has-past ts todo b used j, none j) (or-false (has (getD e i 0) j))));
     fit = λ j h k. clash (filed j h .topic) k;
   }
     where
@@ -124,7 +97,7 @@ module _ {g ts words f : List ℕ} {p used todo : ℕ} (b : todo < 2 ^ 64) (file
           ee ∙ ap (edit (gives w f s)) (v .made)
           ∙ edit-then (λ q x. union x (minus (reach g ts p (past ts todo left) q) (getD f q 0))) (gives w f s) (λ q x. union x (minus (reach g ts p (past ts todo left′) q) (getD f q 0))) e₀
           (λ q x. ext _ _ (λ j. has-puts (has s q) (minus w (getD f q 0)) (union x (minus (reach g ts p (past ts todo left) q) (getD f q 0))) j
-          ∙ simp (members, has-reach g ts p (past ts todo left) q (past-lt ts todo left), has-reach g ts p (past ts todo left′) q (past-lt ts todo left′), has-past ts todo b left j, has-past ts todo b left′ j, of-topic j)
+          ∙ simp (membership, has-reach g ts p (past ts todo left) q (past-lt ts todo left), has-reach g ts p (past ts todo left′) q (past-lt ts todo left′), has-past ts todo b left j, has-past ts todo b left′ j, of-topic j)
           (go q j (has todo j) (has x j) (has (getD f q 0) j) (ℕ-discrete (getD ts j 0) t))));
       fit = λ j h k. fits j h k (ℕ-discrete (getD ts j 0) t);
     }

@@ -9,15 +9,16 @@ use native.Mathlib.Omega.{arith}
 use native.Mathlib.Decide.{decLt, ℕ-discrete}
 use lib.Dec.{eqb}
 use lib.Pow.{pow-mono}
-use lib.ListN.{length, getD, set, take, length-set, length-append}
+use lib.ListN.{length, getD, set, take, length-set}
 use lib.Seq.{getD-set-same, getD-set-other, set-out, set-set, set-getD, ext-getD, take-all}
-use Rattle.sets.specs.Set.{has, union, minus, only, withIf, setOf, digit, count, when, puts}
-use Rattle.sets.specs.Sums.{sum}
+use Rattle.sets.specs.Set.{has, union, minus, only, withIf, setOf, count, when, puts}
+use Rattle.sets.specs.Rising.{rising}
 use Rattle.sets.specs.laws.Bools.{bool2, eqb-same, ne-eqb}
-use Rattle.sets.specs.laws.Members.{members, has-minus, has-only, has-with, has-with-other, ext}
+use Rattle.sets.specs.laws.Members.{membership, has-minus, has-only, has-with, has-with-other, ext}
 use Rattle.sets.specs.laws.Bounds.{union-lt, only-lt}
 use Rattle.sets.specs.laws.Algebra.{union-empty, union-assoc}
 use Rattle.sets.specs.laws.Build.{has-withIf, setOf-lt, has-setOf-out, setOf-has}
+use Rattle.sets.specs.laws.Rising.{length-rising}
 use Rattle.lists.specs.Edit.{edit}
 use Rattle.lists.specs.laws.Edit.{length-edit}
 use Rattle.flooding.specs.Machine.{Pair, pair, run}
@@ -93,7 +94,7 @@ module _ (n : Network) (os e f g ts : List ℕ) (p : ℕ) where
   unfolding wait spread near
   has-wait u b q j l =
       has-edit (λ i x. union x (minus (reach g ts p u i) (getD (had u) i 0))) (set e p (minus (getD e p 0) u)) q j (omega (arith, length-set e p (minus (getD e p 0) u)))
-      ∙ simp (members, has-reach g ts p u q b) (ap (λ (x : Bool). x || ((has u j && has (near j) q) && not (has (getD (had u) q 0) j))) (has-less e p u q j l))
+      ∙ simp (membership, has-reach g ts p u q b) (ap (λ (x : Bool). x || ((has u j && has (near j) q) && not (has (getD (had u) q 0) j))) (has-less e p u q j l))
 
   -- nothing is forwarded yet
   had-none : had 0 ≡ f
@@ -101,7 +102,7 @@ module _ (n : Network) (os e f g ts : List ℕ) (p : ℕ) where
   had-none = ap (set f p) (union-empty (getD f p 0)) ∙ set-getD f p 0
 
   wait-none : wait 0 ≡ e
-  wait-none = same-sets (wait 0) e (wait-length 0) (λ q j l. has-wait 0 (omega arith) q j (omega (arith, wait-length 0)) ∙ simp (members, and-false (eqb q p), and-true (has (getD e q 0) j)) (or-false (has (getD e q 0) j)))
+  wait-none = same-sets (wait 0) e (wait-length 0) (λ q j l. has-wait 0 (omega arith) q j (omega (arith, wait-length 0)) ∙ simp (membership, and-false (eqb q p), and-true (has (getD e q 0) j)) (or-false (has (getD e q 0) j)))
 
   -- one message more, k
   module _ (u k : ℕ) (b : u < 2 ^ 64) (bk : k < 64) (new : has u k ≡ false) (fit : near k < 2 ^ 32) where
@@ -180,7 +181,7 @@ module _ (n : Network) (os e f g ts : List ℕ) (p : ℕ) where
   -- the first k of the messages of w
   run-pairs : (w : ℕ) → ((j : ℕ) → has w j ≡ true → near j < 2 ^ 32) → (k : ℕ) → k ≤ 64
       → run (fwd (table ts os)) (withMessages n e f g) (pairsOf p w k) ≡ withMessages n (wait (setOf k (has w))) (had (setOf k (has w))) g
-  unfolding pairsOf run setOf when puts more
+  unfolding rising run setOf when puts more
   run-pairs w fit zero l = sym (ap₂ (λ (x y : List ℕ). withMessages n x y g) wait-none had-none)
   run-pairs w fit (suc k) l = go (has w k) refl (run-pairs w fit k (omega arith))
     where
@@ -201,20 +202,10 @@ module _ (n : Network) (os e f g ts : List ℕ) (p : ℕ) where
       ap₂ (λ (x y : List ℕ). withMessages n x y g) (a .pending ∙ ap (λ (x : List ℕ). spread g ts x p w (set e p (minus (getD e p 0) w))) (a .seen)) (a .seen)
       ∙ sym (run-pairs w (a .fit) 64 (omega arith) ∙ ap (λ (x : ℕ). withMessages n (wait x) (had x) g) (setOf-has 64 w b))
 
--- ---- how many they are
-
-pairs-count : (p w k : ℕ) → length (pairsOf p w k) ≡ count k (has w)
-unfolding pairsOf count sum
-pairs-count p w zero = refl
-pairs-count p w (suc k) = length-append (pairsOf p w k) _ ∙ rw (pairs-count p w k) (first (has w k))
-  where
-    first : (b : Bool) → sum k (λ (i : ℕ). digit (has w i)) + length (cond b (pair p k ∷ []) []) ≡ sum k (λ (i : ℕ). digit (has w i)) + digit b
-    first true = refl
-    first false = refl
-
 -- Where the budget has them all, this is what the forwards of the peer answer and lead to.
 pub all-at-once : {e f g ts e′ f′ : List ℕ} {p w k left : ℕ} → w < 2 ^ 64 → k ≡ count 64 (has w) → k ≤ left → AtOnce g ts e f p w e′ f′
     → (k ≡ length (take left (pairsOf p w 64))) × Leads g ts e f (take left (pairsOf p w 64)) e′ f′
 all-at-once {e} {f} {g} {ts} {e′} {f′} {p} {w} {k} {left} b h l a =
-    let whole : take left (pairsOf p w 64) ≡ pairsOf p w 64 = take-all left (pairsOf p w 64) (omega (arith, pairs-count p w 64)) in
-    rw whole (h ∙ sym (pairs-count p w 64), λ n os. leads-at-once n os e f g ts p w b a)
+    let many : length (pairsOf p w 64) ≡ count 64 (has w) = length-rising (λ m. pair p m ∷ []) (λ m. refl) 64 w in
+    let whole : take left (pairsOf p w 64) ≡ pairsOf p w 64 = take-all left (pairsOf p w 64) (omega (arith, many)) in
+    rw whole (h ∙ sym many, λ n os. leads-at-once n os e f g ts p w b a)

@@ -10,6 +10,7 @@ use lib.Dec.{eqb}
 use lib.ListN.{length, getD, set, take, length-set}
 use borrow.Author.Tests.{eqb-true}
 use Rattle.sets.specs.Set.{has, minus, only, withIf}
+use Rattle.sets.specs.Rising.{rising}
 use Rattle.sets.specs.laws.Bools.{clash, and-yes, or-yes}
 use Rattle.sets.specs.laws.Build.{has-withIf}
 use Rattle.lists.specs.Edit.{edit}
@@ -48,7 +49,7 @@ module _ (Q : ℕ → Type 0) where
   of-take (suc k) (pair p m ∷ l) h = (h .0, of-take k l (h .1))
 
   of-pairs : (p w k : ℕ) → ((m : ℕ) → has w m ≡ true → Q m) → Of (pairsOf p w k)
-  unfolding pairsOf
+  unfolding rising
   of-pairs p w zero h = tt
   of-pairs p w (suc k) h = of-append (pairsOf p w k) _ (of-pairs p w k h) (last (has w k) (h k))
     where

@@ -1,18 +1,18 @@
 -- The pairs of one peer and the messages of a word, and how they are visited, the least first. For the loops of the drain. Assumes nothing.
-use mathlib.Core.Bool.{Bool, cond}
+use mathlib.Core.Bool.{Bool}
 use mathlib.Core.List.{List, [], _∷_, _++_}
 use Prim.Native.Nat.{ℕ, zero, suc, _+_}
 use lib.Dec.{eqb}
 use lib.ListN.{getD}
 use Rattle.sets.specs.Any.{all}
 use Rattle.sets.specs.Set.{has, count}
+use Rattle.sets.specs.Rising.{rising}
 use Rattle.sets.specs.Sums.{sum}
 use Rattle.flooding.specs.Machine.{Pair, pair}
 
 -- the pairs of p and the members of w below k, rising
-unfoldable pub pairsOf : ℕ → ℕ → ℕ → List Pair
-pairsOf p w zero = []
-pairsOf p w (suc k) = pairsOf p w k ++ cond (has w k) (pair p k ∷ []) []
+abbrev pub pairsOf : ℕ → ℕ → ℕ → List Pair
+pairsOf p w k = rising (λ m. pair p m ∷ []) k w
 
 -- the pairs of the peers below p and the members of their words of l, rising: what a round that began with these words forwards
 unfoldable pub listOf : List ℕ → ℕ → List Pair

@@ -27,7 +27,7 @@ pub struct Drains {
 
 // How many messages a word has; and a word fits, which a caller that has read it from an array is told here. Most words of most drains
 // are empty, and a count of ones takes a dozen steps.
-fn members(w: u64) -> u32
+fn how_many(w: u64) -> u32
     ensures { λ r. ⌜ (r ≡ count 64 (has w)) × (r ≤ 64) × (w < 2 ^ 64) ⌝ }
 {
     if w == 0 {
@@ -43,7 +43,7 @@ fn waiting(pending: &[u64; 32]) -> u32
 {
     let mut total: u32 = 0;
     for p in 0..32 {
-        total += members(pending[p]);
+        total += how_many(pending[p]);
     }
     total
 }
@@ -90,16 +90,16 @@ fn by_topic(topics: &[u8; 64], s: u64) -> [u64; 32]
     r
 }
 
-// The messages of w become pending at each peer of s that has not seen them.
+// The messages of w become pending at each peer of s that has not seen them. (A word of 64 bits for those left: floodnet's src/arrays.rt.)
 fn give_set(pending: &mut [u64; 32], seen: &[u64; 32], s: u32, w: u64)
     ensures { λ z. ⌜ now (pending .exit) ≡ edit (gives w (now (seen .entry)) s) (now (pending .entry)) ⌝ }
     ensures { λ z. ⌜ s < 2 ^ 32 ⌝ }
 {
-    let mut left = s;
+    let mut left = s as u64;
     while left != 0 {
-        let q = sets::lowest32(left) as usize;
+        let q = sets::lowest64(left) as usize;
         pending[q] = sets::union64(pending[q], sets::minus64(w, seen[q]));
-        left = sets::rest32(left);
+        left = sets::rest64(left);
     }
 }
 
@@ -160,7 +160,7 @@ fn drain_peer(
     if todo == 0 {
         return 0;
     }
-    let all = members(todo);
+    let all = how_many(todo);
     if all <= left {
         forward_set(
             &mut *pending,

@@ -1,40 +1,52 @@
 -- The places at which the loops of src/arrays.rt change a list, and their turns. Assumes nothing.
 use mathlib.Core.Path.{_≡_, refl, sym, ap, _∙_}
-use mathlib.Core.Bool.{Bool, true, false, _&&_}
+use mathlib.Core.Bool.{Bool, true, false, not, _&&_}
 use mathlib.Core.List.{List}
-use Prim.Native.Nat.{ℕ, _+_, _*_, _/_, _%_, _<_}
+use Prim.Native.Nat.{ℕ, _+_, _*_, _/_, _%_, _^_, _<_}
 use native.Mathlib.Omega.{arith}
 use lib.Dec.{eqb}
 use lib.ListN.{getD, set}
 use borrow.Author.Tests.{eqb-true}
-use Rattle.sets.specs.Set.{has, union, minus, only, puts, strikes, lowest}
+use Rattle.sets.specs.Set.{has, union, minus, only, puts, strikes, withIf, sift, lowest}
 use Rattle.sets.specs.laws.Bools.{bool2, eqb-same}
-use Rattle.sets.specs.laws.Members.{has-union, has-none, has-only, has-with, has-with-other}
+use Rattle.sets.specs.laws.Members.{has-union, has-minus, has-none, has-only, has-with, has-with-other, ext}
+use Rattle.sets.specs.laws.Build.{has-sifted}
+use Rattle.sets.specs.laws.Lowest.{least-narrow, rest-narrow}
+use Rattle.sets.specs.laws.Visits.{Visit, visit-put, visit-done}
 use Rattle.lists.specs.Edit.{edit}
 use Rattle.network.specs.declared.Peer.{Peer}
 use Rattle.floodnet.specs.Topics.{noted, struck}
 use Rattle.floodnet.proofs.CodeChoices.{picks, Next, Picking, picking-store}
 use Rattle.floodnet.specs.Lent.{holding}
 
--- what `has64` says of the two words together
-pub holding-is : (pending seen : List ℕ) (m q w : ℕ) {b : Bool} → w ≡ union (getD pending q 0) (getD seen q 0) → b ≡ has w m → holding pending seen m q ≡ b
-unfolding holding
-holding-is pending seen m q w {b} e h = sym (h ∙ ap (λ (x : ℕ). has x m) e ∙ has-union (getD pending q 0) (getD seen q 0) m)
+-- ---- `lacking`: those of s that have m neither pending nor seen
 
--- ---- `mark`, `give`, `unmark`: the places of a set
+-- q has it neither pending nor seen
+unfoldable pub lacks : List ℕ → List ℕ → ℕ → ℕ → Bool
+lacks pending seen m q = not (holding pending seen m q)
 
--- one member more, one place more
-next-has : (t q : ℕ) → has t q ≡ false → Next (has t) (has (union t (only q))) q
-next-has t q new = record {
-  others = λ i d. has-with-other t q i (λ (e : q ≡ i). d (sym e));
-  off = new;
-  on = has-with t q;
-}
+-- They are what those who hold it leave of s.
+lacks-left : (s m : ℕ) (pending seen : List ℕ) → s < 2 ^ 32 → sift 32 s (lacks pending seen m) ≡ minus s (sift 32 s (holding pending seen m))
+unfolding lacks
+lacks-left s m pending seen h =
+    ext _ _ (λ i. has-sifted 32 s (λ q. not (holding pending seen m q)) h i
+    ∙ sym (has-minus s (sift 32 s (holding pending seen m)) i ∙ ap (λ (x : Bool). has s i && not x) (has-sifted 32 s (holding pending seen m) h i)
+    ∙ bool2 (λ (x y : Bool). x && not (x && y) ≡ x && not y) refl refl refl refl (has s i) (holding pending seen m i)))
 
--- a turn: h is done at q
-pub marking : {s left left′ q v : ℕ} {l₀ l : List ℕ} (h : ℕ → ℕ) → Picking s left has h l₀ l → 0 < left → q ≡ lowest 32 left → left′ ≡ minus left (only (lowest 32 left))
-    → v ≡ h (getD l q 0) → Picking s left′ has h l₀ (set l q v)
-marking {q = q} h a b eq el ev = picking-store has h q a b eq el ev (λ t new c. next-has t q new)
+-- a turn: q, the least of those left, is put in where its two words together do not have m
+pub lacking-more : {s left left′ r r′ q w : ℕ} {b : Bool} (pending seen : List ℕ) (m : ℕ) → Visit 32 s left r (lacks pending seen m) → 0 < left → q ≡ lowest 64 left
+    → left′ ≡ minus left (only (lowest 64 left)) → w ≡ union (getD pending q 0) (getD seen q 0) → b ≡ has w m → r′ ≡ withIf (not b) (lowest 64 left) r
+    → Visit 32 s left′ r′ (lacks pending seen m)
+unfolding lacks holding
+lacking-more {r = r} {q = q} {b = b} pending seen m v h eq el ew eb er =
+    visit-put v h (least-narrow h (v .below) eq .0) (rest-narrow h (v .below) el)
+    (er ∙ ap (λ (x : ℕ). withIf (not b) x r) (sym eq)
+    ∙ ap (λ (x : Bool). withIf (not x) q r) (eb ∙ ap (λ (x : ℕ). has x m) ew ∙ has-union (getD pending q 0) (getD seen q 0) m))
+
+-- after the last turn
+pub lacking-done : {s left r : ℕ} (pending seen : List ℕ) (m : ℕ) → Visit 32 s left r (lacks pending seen m) → left ≡ 0 → s < 2 ^ 32
+    → r ≡ minus s (sift 32 s (holding pending seen m))
+lacking-done {s} pending seen m v e h = visit-done v e ∙ lacks-left s m pending seen h
 
 -- ---- rows of `known`: the word of topic t at peer q stands at q * 32 + t
 

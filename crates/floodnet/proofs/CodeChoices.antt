@@ -7,11 +7,12 @@ use Prim.Native.Nat.{ℕ, _^_, _<_}
 use lib.ListN.{getD, set}
 use Rattle.sets.specs.Set.{has, union, minus, only, when, puts, strikes, lowest}
 use Rattle.sets.specs.laws.Bools.{bool2}
-use Rattle.sets.specs.laws.Members.{members, ext}
+use Rattle.sets.specs.laws.Members.{membership, ext}
 use Rattle.sets.specs.laws.Lowest.{lowest-has, lowest-lt}
 use Rattle.sets.specs.laws.Visits.{visit-new}
 use Rattle.lists.specs.Edit.{edit}
-use Rattle.floodnet.specs.laws.CodeVisit.{edit-store, edit-then, edit-alike, Along, along-none, along-more}
+use Rattle.lists.specs.laws.Edit.{edit-store, edit-then, edit-alike}
+use Rattle.floodnet.proofs.CodeVisit.{Along, along-none, along-more}
 
 -- h at the places where b is true
 abbrev pub picks : (ℕ → Bool) → (ℕ → ℕ) → ℕ → ℕ → ℕ
@@ -20,12 +21,12 @@ picks b h i w = when (b i) h w
 -- putting in twice is putting in once, and so is striking out
 pub puts-twice : (s x : ℕ) → puts s (puts s x) ≡ puts s x
 unfolding puts
-puts-twice s x = ext (union (union x s) s) (union x s) (λ i. simp members (bool2 (λ (a b : Bool). (a || b) || b ≡ a || b) refl refl refl refl (has x i) (has s i)))
+puts-twice s x = ext (union (union x s) s) (union x s) (λ i. simp membership (bool2 (λ (a b : Bool). (a || b) || b ≡ a || b) refl refl refl refl (has x i) (has s i)))
 
 -- striking out twice is striking out once
 pub strikes-twice : (s x : ℕ) → strikes s (strikes s x) ≡ strikes s x
 unfolding strikes
-strikes-twice s x = ext (minus (minus x s) s) (minus x s) (λ i. simp members (bool2 (λ (a b : Bool). (a && not b) && not b ≡ a && not b) refl refl refl refl (has x i) (has s i)))
+strikes-twice s x = ext (minus (minus x s) s) (minus x s) (λ i. simp membership (bool2 (λ (a b : Bool). (a && not b) && not b ≡ a && not b) refl refl refl refl (has x i) (has s i)))
 
 -- nothing is picked
 pub picks-none : (b : ℕ → Bool) (h : ℕ → ℕ) (i x : ℕ) → b i ≡ false → picks b h i x ≡ x

@@ -1,10 +1,17 @@
 -- How the code comes to a refusal, test by test. Assumes nothing.
 use mathlib.Core.Path.{_≡_, sym, ap, _∙_}
 use mathlib.Core.Bool.{Bool, true, false, not}
-use Prim.Native.Nat.{ℕ}
+use Prim.Native.Nat.{ℕ, _^_, _<_}
+use native.Mathlib.Omega.{arith}
 use lib.Dec.{eqb}
 use borrow.Author.Tests.{not-true, not-false, eq-eqb, ne-eqb}
-use Rattle.sets.specs.Set.{has, sift}
+use Rattle.sets.specs.Set.{has, minus, sift, size, Subset}
+use Rattle.sets.specs.laws.Bools.{and-yes}
+use Rattle.sets.specs.laws.Build.{has-sifted}
+use Rattle.sets.specs.laws.Counts.{size-empty}
+use Rattle.sets.specs.laws.Sizes.{size-minus-meet}
+use Rattle.sets.specs.laws.Subsets.{meet-of-subset}
+use Rattle.sets.specs.laws.Visits.{minus-none}
 use Rattle.network.specs.declared.Topic.{Topic}
 use Rattle.network.specs.declared.Message.{Message}
 use Rattle.network.specs.declared.Network.{Network}
@@ -50,7 +57,15 @@ some-fails {w} {x} h e = ne-eqb x 0 (λ (z : x ≡ 0). e (h ∙ z))
 pub none-holds : {w x : ℕ} → w ≡ x → w ≡ 0 → eqb x 0 ≡ true
 none-holds {w} {x} h e = eq-eqb x 0 (sym h ∙ e)
 
--- what `holders` answers, in the words of Produce
-pub holders-is : (n : Network) (s : ℕ) (m : Message) {r : ℕ} → r ≡ sift 32 s (holding (n .pending) (n .seen) (m .0)) → r ≡ holders n s m
+-- r are those of s that do not hold m: the test `r != s`, where the condition is that nobody of s holds it
+pub some-held : (n : Network) (s : ℕ) (m : Message) {r : ℕ} → r ≡ minus s (sift 32 s (holding (n .pending) (n .seen) (m .0))) → (r ≡ s → ⊥) → eqb (holders n s m) 0 ≡ false
 unfolding holders holding
-holders-is n s m h = h
+some-held n s m h e = ne-eqb (holders n s m) 0 (λ (z : holders n s m ≡ 0). e (h ∙ ap (minus s) z ∙ minus-none s))
+
+-- the test `r != s` is false: nobody does
+pub none-held : (n : Network) (s : ℕ) (m : Message) {r : ℕ} → s < 2 ^ 32 → r ≡ minus s (sift 32 s (holding (n .pending) (n .seen) (m .0))) → r ≡ s → eqb (holders n s m) 0 ≡ true
+unfolding holders holding Subset
+none-held n s m b h e = eq-eqb (holders n s m) 0 (size-empty _ (omega (arith, size-minus-meet s (holders n s m), ap size (sym h ∙ e), ap size (meet-of-subset s (holders n s m) part))))
+  where
+    part : Subset (holders n s m) s
+    part i x = and-yes (has s i) _ (sym (has-sifted 32 s _ b i) ∙ x) .0

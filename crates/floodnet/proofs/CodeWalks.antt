@@ -7,15 +7,16 @@ use lib.Dec.{eqb}
 use lib.ListN.{getD}
 use Rattle.sets.specs.Set.{has, union, minus, only, when, puts, strikes, withIf, sift, lowest}
 use Rattle.sets.specs.laws.Bools.{bool2}
-use Rattle.sets.specs.laws.Members.{members, has-union, has-none, has-only, ext}
+use Rattle.sets.specs.laws.Members.{membership, has-union, has-none, has-only, ext}
 use Rattle.sets.specs.laws.Build.{has-withIf}
 use Rattle.sets.specs.laws.Lowest.{lowest-has, lowest-lt}
 use Rattle.sets.specs.laws.Visits.{setOf-none, visit-step, sift-step}
 use Rattle.lists.specs.Edit.{edit}
+use Rattle.lists.specs.laws.Edit.{edit-then}
 use Rattle.network.specs.declared.Peer.{Peer}
 use Rattle.floodnet.specs.Topics.{noted}
 use Rattle.floodnet.specs.laws.Places.{eqb-sym}
-use Rattle.floodnet.specs.laws.CodeVisit.{Along, along-more, edit-then}
+use Rattle.floodnet.proofs.CodeVisit.{Along, along-more}
 use Rattle.floodnet.proofs.CodeChoices.{picks, strikes-twice, Picking, picking-edit}
 use Rattle.floodnet.proofs.CodeArrays.{inside}
 use Rattle.floodnet.specs.Lent.{learnt}
@@ -64,7 +65,7 @@ unfolding rows
 rows-dropped s p own l e = ap (λ (x : ℕ). edit (picks (rows s) (strikes x)) l) (e ∙ alone)
   where
     alone : union 0 (only p) ≡ only p
-    alone = ext (union 0 (only p)) (only p) (λ j. simp members)
+    alone = ext (union 0 (only p)) (only p) (λ j. simp membership)
 
 -- of nobody, nothing is learnt
 pub learnt-none : (p : ℕ) (subs : List ℕ) (i x : ℕ) → learnt p subs 0 i x ≡ x
@@ -75,7 +76,7 @@ learnt-none p subs i x = go (eqb (i / 32) p)
     empty = setOf-none 32 (λ q. has 0 q && has (getD subs q 0) (i % 32)) (λ q. ap (λ (b : Bool). b && has (getD subs q 0) (i % 32)) (has-none q))
 
     or-none : union x 0 ≡ x
-    or-none = ext (union x 0) x (λ j. simp members (bool2 (λ (a b : Bool). a || false ≡ a) refl refl refl refl (has x j) false))
+    or-none = ext (union x 0) x (λ j. simp membership (bool2 (λ (a b : Bool). a || false ≡ a) refl refl refl refl (has x j) false))
 
     go : (b : Bool) → when b (puts (sift 32 0 (λ q. has (getD subs q 0) (i % 32)))) x ≡ x
     go true = ap (union x) empty ∙ or-none
@@ -83,7 +84,7 @@ learnt-none p subs i x = go (eqb (i / 32) p)
 
 -- q is put in after the others
 with-later : (b : Bool) (q w s : ℕ) → withIf b q (union w s) ≡ union w (withIf b q s)
-with-later b q w s = ext (withIf b q (union w s)) (union w (withIf b q s)) (λ j. simp (members, has-withIf) (go (has w j) (has s j) (b && eqb q j)))
+with-later b q w s = ext (withIf b q (union w s)) (union w (withIf b q s)) (λ j. simp (membership, has-withIf) (go (has w j) (has s j) (b && eqb q j)))
   where
     go : (x y z : Bool) → (x || y) || z ≡ x || (y || z)
     go true y z = refl

@@ -5,4 +5,5 @@ pub mod CodeLinks
 pub mod CodeRefusals
 pub mod CodeRows
 pub mod CodeTurns
+pub mod CodeVisit
 pub mod CodeWalks

@@ -23,7 +23,7 @@ moved n p m =
 unfoldable pub receivers : Network → Table → Peer → Message → ℕ
 receivers n b p m = minus (knownOf n p (topicOf b m)) (holders (moved n p m) (knownOf n p (topicOf b m)) m)
 
--- m becomes pending at each peer of r
+-- m becomes pending at each peer of r (which the code visits, the least first: `forwarded-visits`, specs/laws/DeliveryLaws.antt)
 unfoldable pub given : Network → ℕ → Message → Network
 given n r m = withPending n (edit (λ q w. withIf (has r q) (m .0) w) (n .pending))
 

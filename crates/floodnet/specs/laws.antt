@@ -1,6 +1,6 @@
 -- Laws of what specs/ defines, for the crates above and for proofs. Assumes nothing.
 pub mod AccidentLaws
-pub mod CodeVisit
+pub mod DeliveryLaws
 pub mod ForwardLaws
 pub mod Keeping
 pub mod LeaveJoin

@@ -1,43 +1,46 @@
-// Loops over a lent array of 32 words, one for each peer: the members of a set are visited, the least first. What an array
-// becomes is one `edit` of what it was; the loops' turns are laws of proofs/CodeChoices.antt and proofs/CodeArrays.antt.
+// Loops over a lent array of 32 words, one for each peer: the members of a set are visited, the least first, and nobody else. The
+// loops' turns are laws of the crates below: `Visit` (sets, specs/laws/Visits.antt) for a set that is found, `Visiting` (lists,
+// specs/laws/Visit.antt) for an array that is changed. Each loop's measure is the number of members left, so it has as many turns as members.
+// A forward keeps those left in a word of 64 bits, from which some machines take the least in a step less (docs/BENCH.md).
 ghost use mathlib.Core.Path.{_≡_};
 ghost use Prim.Native.Nat.{_<_};
-ghost use Rattle.sets.specs.Set.{has, only, when, strikes, withIf, sift};
+ghost use Rattle.sets.specs.Set.{has, minus, only, when, puts, strikes, withIf, sift};
+ghost use Rattle.sets.specs.Rising.{members};
 ghost use Rattle.lists.specs.Edit.{edit};
+ghost use Rattle.lists.specs.Visit.{visits};
 ghost use Rattle.floodnet.specs.Lent.{holding};
 use network::Message;
 use network::Peer;
 
-// Those of s that have m pending or seen.
-pub(crate) fn holders(pending: &[u64; 32], seen: &[u64; 32], s: u32, m: Message) -> u32
+// Those of s that have m neither pending nor seen: the members of s are visited, and no branch depends on who holds what.
+pub(crate) fn lacking(pending: &[u64; 32], seen: &[u64; 32], s: u32, m: Message) -> u32
     requires { ⌜ m .0 < 64 ⌝ }
-    ensures { λ r. ⌜ r ≡ sift 32 s (holding (now (pending .entry)) (now (seen .entry)) (m .0)) ⌝ }
+    ensures { λ r. ⌜ r ≡ minus s (sift 32 s (holding (now (pending .entry)) (now (seen .entry)) (m .0))) ⌝ }
 {
     let i = m.0 as u32;
-    let mut r: u32 = 0;
-    let mut left = s;
+    let mut r: u64 = 0;
+    let mut left = s as u64;
     while left != 0 {
-        let q = sets::lowest32(left);
-        let words = sets::union64(pending[q as usize], seen[q as usize]);
-        if sets::has64(words, i) {
-            r = sets::with32(r, q);
-        }
-        left = sets::rest32(left);
+        let q = sets::lowest64(left) as usize;
+        let words = sets::union64(pending[q], seen[q]);
+        r = sets::with_least64(r, left, !sets::has64(words, i));
+        left = sets::rest64(left);
     }
-    r
+    r as u32
 }
 
-// m becomes pending at each peer of r.
+// m becomes pending at each peer of r: "take the receiving set's lowest member, found by the count of trailing zeros, until the set
+// is empty" (document 02, E4).
 pub(crate) fn give(pending: &mut [u64; 32], r: u32, m: Message)
     requires { ⌜ m .0 < 64 ⌝ }
-    ensures { λ z. ⌜ now (pending .exit) ≡ edit (λ q w. withIf (has r q) (m .0) w) (now (pending .entry)) ⌝ }
+    ensures { λ z. ⌜ now (pending .exit) ≡ visits (λ q. puts (only (m .0))) (members 32 r) (now (pending .entry)) ⌝ }
 {
     let i = m.0 as u32;
-    let mut left = r;
+    let mut left = r as u64;
     while left != 0 {
-        let q = sets::lowest32(left) as usize;
+        let q = sets::lowest64(left) as usize;
         pending[q] = sets::with64(pending[q], i);
-        left = sets::rest32(left);
+        left = sets::rest64(left);
     }
 }
 

@@ -45,8 +45,7 @@ pub fn forward(
     seen[i] = sets::with64(seen[i], b);
     let k = network::spot(p, network::topic_of(topics, m));
     let near = known[k];
-    let held = arrays::holders(pending, seen, near, m);
-    let receivers = sets::minus32(near, held);
+    let receivers = arrays::lacking(pending, seen, near, m);
     arrays::give(pending, receivers, m);
     receivers
 }

@@ -37,7 +37,7 @@ pub(crate) fn of_produce(
     if !sets::has32(pubs[p.0 as usize], t.0 as u32) {
         return 11;
     }
-    if arrays::holders(pending, seen, present, m) != 0 {
+    if arrays::lacking(pending, seen, present, m) != present {
         return 12;
     }
     0

@@ -1,3 +1,4 @@
 pub mod Tab
 pub mod Edit
+pub mod Visit
 pub mod laws

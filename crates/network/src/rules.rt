@@ -83,18 +83,19 @@ pub(crate) fn near_absent(listed: u32, present: u32) -> u32
     sets::lowest32(absent)
 }
 
-// The lowest of the peers listed that doesn't list p; 32 where all do.
+// The lowest of the peers listed that doesn't list p; 32 where all do. (Those left stand in a word of 64 bits: some machines take the least from
+// it in a step less, docs/BENCH.md.)
 pub(crate) fn list_back(neighbours: &[u32; 32], listed: u32, p: Peer) -> u32
     requires { ⌜ p .0 < 32 ⌝ }
     ensures { λ r. ⌜ r ≡ listBack (now (neighbours .entry)) listed p ⌝ }
 {
-    let mut left = listed;
+    let mut left = listed as u64;
     while 0 < left {
-        let q = sets::lowest32(left);
+        let q = sets::lowest64(left);
         if !sets::has32(neighbours[q as usize], p.0 as u32) {
             return q;
         }
-        left = sets::rest32(left);
+        left = sets::rest64(left);
     }
     32
 }

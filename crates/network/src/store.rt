@@ -19,15 +19,15 @@ pub(crate) fn head(present: u32, p: Peer) -> u32
     0
 }
 
-// The first words of all records.
+// The first words of all records: 1 at each member of `present`, 0 elsewhere.
 pub(crate) fn heads(present: u32) -> [u32; 32]
     ensures { λ r. ⌜ r ≡ tab 32 (λ (p : ℕ). digit (has present p)) ⌝ }
 {
     let mut r = [0u32; 32];
-    let mut p: u8 = 0;
-    while p < 32 {
-        r[p as usize] = head(present, Peer(p));
-        p += 1;
+    let mut left = present;
+    while left != 0 {
+        r[sets::lowest32(left) as usize] = 1;
+        left = sets::rest32(left);
     }
     r
 }

@@ -4,6 +4,7 @@ pub mod RunReached
 pub mod RunPage
 pub mod UntouchedPage
 pub mod ReceiversPage
+pub mod VisitsPage
 pub mod ImagePage
 pub mod ReachPage
 pub mod FromBlank

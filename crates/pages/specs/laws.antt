@@ -1,4 +1,5 @@
 -- Laws of what specs/ defines, for the crates above and for proofs. Assumes nothing.
+pub mod AcceptedForward
 pub mod DrainingReach
 pub mod FaultPageLaws
 pub mod ForwardBytes
@@ -15,3 +16,4 @@ pub mod RunStops
 pub mod Settled
 pub mod StartPageLaws
 pub mod UntouchedPage
+pub mod VisitsPageLaws

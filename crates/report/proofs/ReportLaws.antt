@@ -1,20 +1,23 @@
 -- How long what is printed can be, and the loop that writes the lines of the peers. Assumes nothing.
-use mathlib.Core.Path.{_≡_, _∙_}
+use mathlib.Core.Path.{_≡_, ap, _∙_}
 use mathlib.Core.Bool.{Bool, true, false, cond}
 use mathlib.Core.List.{List, [], _++_, append-nil}
 use Prim.Native.Nat.{ℕ, zero, suc, _+_, _*_, _^_, _≤_, _<_}
 use native.Mathlib.Omega.{arith}
-use native.Mathlib.Numerals.{add-one}
 use lib.ListN.{length, drop, length-append}
 use borrow.Author.Tests.{lt-ltb, le-ltb}
-use Rattle.sets.specs.laws.Sizes.{size-le}
+use Rattle.sets.specs.Set.{has, minus, only, size, lowest}
+use Rattle.sets.specs.Rising.{rising}
+use Rattle.sets.specs.laws.Bounds.{minus-lt}
+use Rattle.sets.specs.laws.Rising.{rising-empty, rising-lowest}
+use Rattle.sets.specs.laws.Sizes.{size-le, size-rest}
 use Rattle.network.specs.declared.Peer.{Peer}
 use Rattle.network.specs.declared.Network.{Network}
-use Rattle.network.specs.Network.{peer, subsOf, pendingOf, seenOf, present, Shaped}
+use Rattle.network.specs.Network.{peer, subsOf, pendingOf, seenOf, Shaped}
 use Rattle.report.specs.laws.TextLaws.{length-count, length-byte, spaced-count, spaced-long}
 use Rattle.report.specs.Write.{Wrote}
-use Rattle.report.proofs.Write.{wrote-then, wrote-front}
-use Rattle.report.specs.Report.{flood, peerWord, firstLine, countLine, peerLine, lineIf, linesTo, peerLines, reportOf, putIn, countIn, Reported}
+use Rattle.report.proofs.Write.{wrote-none, wrote-then, wrote-front}
+use Rattle.report.specs.Report.{flood, peerWord, firstLine, countLine, peerLine, peerLines, reportOf, putIn, countIn, Reported}
 
 -- The first line: 6 + 3 + 1 + 20 + 1 + 20 + 1.
 pub length-first : (number place accepted : ℕ) → number < 256 → place < 2 ^ 64 → accepted < 2 ^ 64 → length (firstLine number place accepted) ≤ 52
@@ -37,14 +40,14 @@ length-line n p h s =
     (omega (arith, size-le 64 (pendingOf n p) (s .pending-fit (p .0))))
     (omega (arith, size-le 64 (seenOf n p) (s .seen-fit (p .0))))
 
--- Those of the peers below k.
-pub length-lines : (k : ℕ) (n : Network) → k ≤ 32 → Shaped n → length (linesTo k n) ≤ 17 * k
-unfolding linesTo lineIf
-length-lines zero n h s = omega arith
-length-lines (suc k) n h s = omega (arith, length-append (linesTo k n) (lineIf n (peer k)), length-lines k n (omega arith) s, one (present n (peer k)))
+-- Those of the members of s.
+length-lines : (k s : ℕ) (n : Network) → k ≤ 32 → Shaped n → length (rising (λ p. peerLine n (peer p)) k s) ≤ 17 * k
+unfolding rising
+length-lines zero s n h f = omega arith
+length-lines (suc k) s n h f = omega (arith, length-append (rising (λ p. peerLine n (peer p)) k s) (cond (has s k) (peerLine n (peer k)) []), length-lines k s n (omega arith) f, one (has s k))
   where
     one : (b : Bool) → length (cond b (peerLine n (peer k)) []) ≤ 17
-    one true = length-line n (peer k) (omega arith) s
+    one true = length-line n (peer k) (omega arith) f
     one false = omega arith
 
 -- All that is printed fits 1,024 bytes: 52 for the first line, 17 for each of 32 peers.
@@ -55,22 +58,39 @@ length-report number place accepted n shown a b c s =
     omega (arith, length-append (firstLine number place accepted) (cond shown (peerLines n) []), length-first number place accepted a b c, rest shown)
   where
     rest : (x : Bool) → length (cond x (peerLines n) []) ≤ 544
-    rest true = length-lines 32 n (omega arith) s
+    rest true = length-lines 32 (n .present) n (omega arith) s
     rest false = omega arith
 
 -- ---- writing
 
--- One peer more, who is present: its line.
-pub lines-more : {l : List ℕ} {at : ℕ} {r s : List ℕ} {i j : ℕ} (k : ℕ) (n : Network) → present n (peer k) ≡ true → Wrote l at (linesTo k n) r i
-    → Wrote r i (peerLine n (peer k)) s j → Wrote l at (linesTo (k + 1) n) s j
-unfolding linesTo lineIf
-lines-more k n h v w = rw (add-one k, h) (wrote-then v w)
+-- What the loop over the peers keeps, with `left` for those whose lines are still to be written: their lines, written next, are the last of all.
+pub record Lining (n : Network) (s left : ℕ) (l : List ℕ) (at : ℕ) (r : List ℕ) (i : ℕ) : Type 0 where
+  pub below : left < 2 ^ 32
+  pub room : i + 17 * size left ≤ 596
+  pub all : (t : List ℕ) (j : ℕ) → Wrote r i (rising (λ p. peerLine n (peer p)) 32 left) t j → Wrote l at (rising (λ p. peerLine n (peer p)) 32 s) t j
 
--- One peer more, who is absent: nothing.
-pub lines-same : {l : List ℕ} {at : ℕ} {r : List ℕ} {i : ℕ} (k : ℕ) (n : Network) → present n (peer k) ≡ false → Wrote l at (linesTo k n) r i
-    → Wrote l at (linesTo (k + 1) n) r i
-unfolding linesTo lineIf
-lines-same k n h v = rw (add-one k, h, append-nil (linesTo k n)) v
+-- before the first line
+pub lines-none : (n : Network) (s : ℕ) (l : List ℕ) (at : ℕ) → s < 2 ^ 32 → at ≤ 52 → Lining n s s l at l at
+lines-none n s l at b h = record { below = b; room = omega (arith, size-le 32 s b); all = λ t j w. w }
+
+-- there is room for one more, if one is left
+pub lines-room : {n : Network} {s left : ℕ} {l : List ℕ} {at : ℕ} {r : List ℕ} {i : ℕ} → Lining n s left l at r i → 0 < left → i + 17 ≤ 596
+lines-room {left = left} v h = omega (arith, v .room, size-rest 32 left h (v .below))
+
+-- the line of p, the least of those left
+pub lines-more : {n : Network} {s left left′ p : ℕ} {l : List ℕ} {at : ℕ} {r r′ : List ℕ} {i i′ : ℕ} → Lining n s left l at r i → 0 < left → p ≡ lowest 32 left
+    → left′ ≡ minus left (only (lowest 32 left)) → Wrote r i (peerLine n (peer p)) r′ i′ → i′ ≤ i + 17 → Lining n s left′ l at r′ i′
+lines-more {n} {s} {left} {left′} {p} v h ep el w b = record {
+  below = rw el (minus-lt 32 left (only (lowest 32 left)) (v .below));
+  room = omega (arith, v .room, b, ap size el, size-rest 32 left h (v .below));
+  all = λ t j x. v .all t j (rw (rising-lowest (λ p. peerLine n (peer p)) 32 left h (v .below)) (wrote-then (rw ep at w) (rw el at x)));
+}
+
+-- after the last
+pub lines-all : {n : Network} {s left : ℕ} {l : List ℕ} {at : ℕ} {r : List ℕ} {i : ℕ} → Lining n s left l at r i → left ≡ 0
+    → Wrote l at (rising (λ p. peerLine n (peer p)) 32 s) r i × (i ≤ 596)
+lines-all {n} {r = r} {i = i} v e =
+    (v .all r i (rw (e, rising-empty (λ p. peerLine n (peer p)) 32) (wrote-none r i)), omega (arith, v .room))
 
 -- A short buffer is left as it was.
 pub reported-none : (number place accepted : ℕ) (n : Network) (shown : Bool) (l : List ℕ) → length l < 1024 → Reported number place accepted n shown l l 0

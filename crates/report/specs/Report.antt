@@ -4,13 +4,14 @@
 use mathlib.Core.Path.{_≡_}
 use mathlib.Core.Bool.{Bool, cond, _&&_, _||_}
 use mathlib.Core.List.{List, [], _∷_, _++_}
-use Prim.Native.Nat.{ℕ, zero, suc, _≤_}
+use Prim.Native.Nat.{ℕ, _≤_}
 use lib.Dec.{eqb, leb, ltb}
 use lib.ListN.{length, drop}
 use Rattle.sets.specs.Set.{size}
+use Rattle.sets.specs.Rising.{rising}
 use Rattle.network.specs.declared.Peer.{Peer}
 use Rattle.network.specs.declared.Network.{Network}
-use Rattle.network.specs.Network.{peer, subsOf, pendingOf, seenOf, present}
+use Rattle.network.specs.Network.{peer, subsOf, pendingOf, seenOf}
 use Rattle.report.specs.Text.{decimal, spaced, newline}
 
 -- "the fixed bytes `FLOOD `", and "`PEER `"
@@ -32,18 +33,9 @@ countLine p subs pending seen = peerWord ++ decimal p ++ spaced subs ++ spaced p
 unfoldable pub peerLine : Network → Peer → List ℕ
 peerLine n p = countLine (p .0) (size (subsOf n p)) (size (pendingOf n p)) (size (seenOf n p))
 
--- the line of a present peer, and none for another
-unfoldable pub lineIf : Network → Peer → List ℕ
-lineIf n p = cond (present n p) (peerLine n p) []
-
--- the lines of the present peers below k, rising
-unfoldable pub linesTo : ℕ → Network → List ℕ
-linesTo zero n = []
-linesTo (suc k) n = linesTo k n ++ lineIf n (peer k)
-
 -- "for each present peer rising"
 unfoldable pub peerLines : Network → List ℕ
-peerLines n = linesTo 32 n
+peerLines n = rising (λ p. peerLine n (peer p)) 32 (n .present)
 
 -- "For 0 and any refused event": a run's number that is followed by the peers. The numbers of refused events are 6 to 16.
 unfoldable pub shownFor : ℕ → Bool

@@ -48,13 +48,12 @@ fn peer_lines(out: &mut [u8], at: usize, n: Network) -> usize
     ensures { λ r. ⌜ Wrote (now (out .entry)) at (peerLines n) (now (out .exit)) r × (r ≤ 596) ⌝ }
 {
     let mut next = at;
-    let mut p: u32 = 0;
-    while p < 32 {
-        if sets::has32(n.present, p) {
-            let i = p as usize;
-            next = peer_line(&mut *out, next, p, n.subs[i], n.pending[i], n.seen[i]);
-        }
-        p += 1;
+    let mut left = n.present;
+    while left != 0 {
+        let p = sets::lowest32(left);
+        let i = p as usize;
+        next = peer_line(&mut *out, next, p, n.subs[i], n.pending[i], n.seen[i]);
+        left = sets::rest32(left);
     }
     next
 }

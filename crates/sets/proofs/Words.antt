@@ -1,16 +1,17 @@
 -- What the code computes, `a & !b`, `w | (1 << i)` and the others, is what the definitions say. Stated once, over the width k. Assumes nothing.
 use mathlib.Core.Path.{_≡_, sym, ap, _∙_}
-use mathlib.Core.Bool.{Bool, true, not, _&&_}
+use mathlib.Core.Bool.{Bool, true, false, not, _&&_}
 use Prim.Native.Nat.{ℕ, zero, suc, _-_, _*_, _/_, _%_, _^_, _<_}
 use native.Mathlib.Nat.{not-suc-le-zero, le-of-suc-le-suc, mod-eq-of-lt, one-mul}
 use native.Mathlib.Omega.{arith}
 use lib.Dec.{eqb}
 use lib.Pow.{pow-pos, pow-lt}
-use lib.Bits.{bitAnd, bitOr, bitXor, xor-add-and, and-mask}
+use lib.Bits.{bitAnd, bitOr, bitXor, or-zero-r, xor-add-and, and-mask}
 use Rattle.sets.specs.laws.Bools.{apart, apart-true}
-use Rattle.sets.specs.Set.{has, union, meet, minus, only}
+use Rattle.sets.specs.Set.{has, union, meet, minus, only, when, puts, withIf, digit, lowest}
 use Rattle.sets.specs.laws.Members.{has-first, has-rest, has-meet, has-xor, ext-below, has-minus}
 use Rattle.sets.specs.laws.Bounds.{meet-lt, minus-lt, only-lt}
+use Rattle.sets.specs.laws.Lowest.{lowest-has, only-le, minus-only, and-pred}
 
 -- A word of k bits that are all set has every number below k.
 has-all : (k i : ℕ) → i < k → has (2 ^ k - 1) i ≡ true
@@ -53,3 +54,22 @@ or-shl k w i h = ap (union w) (shl-only k i h)
 -- `w & !(1 << i)` is w without i.
 pub and-not-shl : (k w i : ℕ) → w < 2 ^ k → i < k → bitAnd w ((2 ^ k - 1) - (1 * 2 ^ i) % 2 ^ k) ≡ minus w (only i)
 and-not-shl k w i hw hi = ap (λ (x : ℕ). bitAnd w ((2 ^ k - 1) - x)) (shl-only k i hi) ∙ and-not k w (only i) hw (only-lt k i hi)
+
+-- `w & !(w - 1)` is the set of the least member.
+pub and-not-pred : (k w : ℕ) → 0 < w → w < 2 ^ k → bitAnd w ((2 ^ k - 1) - (w - 1)) ≡ only (lowest k w)
+unfolding minus meet only
+and-not-pred k w p h =
+    let e = and-pred k w p h ∙ minus-only w (lowest k w) (lowest-has k w p h) in
+    let b = only-le w (lowest k w) (lowest-has k w p h) in
+    and-not k w (w - 1) h (omega arith) ∙ omega (arith, e, b)
+
+-- `v | x * (b as u64)` is v with i where b is true, x being the set of i.
+pub or-times : (v x i : ℕ) (b : Bool) → x ≡ only i → bitOr v (x * digit b) ≡ withIf b i v
+unfolding when puts union
+or-times v x i true e = let z : x * 1 ≡ x = omega arith in ap (bitOr v) (z ∙ e)
+or-times v x i false e = let z : x * 0 ≡ 0 = omega arith in ap (bitOr v) z ∙ or-zero-r v
+
+-- It fits where x does.
+pub times-lt : (k x : ℕ) (b : Bool) → x < 2 ^ k → x * digit b < 2 ^ k
+times-lt k x true h = omega arith
+times-lt k x false h = omega (arith, pow-pos k)

@@ -9,6 +9,7 @@ pub mod Examples
 pub mod Least
 pub mod Lowest
 pub mod Members
+pub mod Rising
 pub mod Sizes
 pub mod Subsets
 pub mod Sums

@@ -23,13 +23,13 @@ abbrev μ-loop : tie.MeasureT-loop
 μ-loop pending₀ seen₀ known topics words used p todo left all made₀ rest₀ pending seen made rest = left - made
 
 -- from the place where all were counted: the start; where they are forwarded at once; and where the loop begins
-abbrev start : tie.After-members Inv-loop μ-loop → tie.Start Inv-loop μ-loop
+abbrev start : tie.After-how-many Inv-loop μ-loop → tie.Start Inv-loop μ-loop
 start c = c .before .before
 
 abbrev at-once : tie.After-forward-set-arg2 Inv-loop μ-loop → tie.Then2 Inv-loop μ-loop
 at-once c = c .before .before
 
-abbrev counted : tie.At-loop Inv-loop μ-loop → tie.After-members Inv-loop μ-loop
+abbrev counted : tie.At-loop Inv-loop μ-loop → tie.After-how-many Inv-loop μ-loop
 counted h = h .before .before
 
 -- from the place where the least message was taken: the loop's head; and to there from its forward
@@ -46,8 +46,8 @@ returns c =
       λ n os. walk-done _ _ (a .p .0) _ (a .left) (walk-none _ _ _ _ _ (search needs)) (inl (c .if1 .taken)) .1,
     )
 
-members-requires : tie.Need-members-requires Inv-loop μ-loop
-members-requires c κs = search needs
+how-many-requires : tie.Need-how-many-requires Inv-loop μ-loop
+how-many-requires c κs = search needs
 
 forward-set-requires : tie.Need-forward-set-requires Inv-loop μ-loop
 forward-set-requires c κs =
@@ -57,7 +57,7 @@ forward-set-requires c κs =
 returns-2 : tie.Need-returns-2 Inv-loop μ-loop
 returns-2 c =
     let asked = at-once (c .before) in
-    all-at-once (search needs) (asked .before .members .ensures .0) (asked .if2 .taken) (c .forward-set .ensures)
+    all-at-once (search needs) (asked .before .how-many .ensures .0) (asked .if2 .taken) (c .forward-set .ensures)
 
 loop-holds : tie.Need-loop-holds Inv-loop μ-loop
 loop-holds c = λ n os. walk-none _ _ _ _ _ (search needs)
@@ -104,7 +104,7 @@ drain-peer-spec =
     Inv-loop
     μ-loop
     returns
-    members-requires
+    how-many-requires
     forward-set-requires
     returns-2
     loop-holds

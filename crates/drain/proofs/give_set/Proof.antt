@@ -1,28 +1,35 @@
 -- `drain::give_set` meets its contract. Assumes nothing.
 use borrow.Author.Needs.{needs}
 use mathlib.Core.Path.{ap, _∙_}
-use Rattle.sets.specs.Set.{union}
-use Rattle.floodnet.specs.laws.CodeVisit.{Along, along-none, along-done}
+use Prim.Native.Nat.{_<_}
+use lib.ListN.{getD}
+use Rattle.sets.specs.Set.{union, minus, puts, size}
+use Rattle.sets.specs.laws.Lowest.{least-narrow}
+use Rattle.sets.specs.laws.Sizes.{size-less}
+use Rattle.lists.specs.laws.Visit.{Visiting, visiting-none, visiting-wide, visiting-done, visits-edit}
 use Rattle.drain.specs.AtOnce.{gives}
-use Rattle.drain.proofs.AtOnce.{gives-none, giving}
 use Rattle.drain.proofs.give_set.Statement.{statement}
 use Rattle.drain.proofs.give_set.Tie as tie
 
 abbrev Inv-loop : tie.InvT-loop
-Inv-loop pending₀ seen s w left₀ pending left = Along s left (gives w seen) pending₀ pending
+Inv-loop pending₀ seen s w left₀ pending left = Visiting 32 s left (λ q. puts (minus w (getD seen q 0))) pending₀ pending
 
 abbrev μ-loop : tie.MeasureT-loop
-μ-loop pending₀ seen s w left₀ pending left = left
+μ-loop pending₀ seen s w left₀ pending left = size left
 
 -- from the place where q's word is made: where q was taken
-abbrev least : tie.After-union64 Inv-loop μ-loop → tie.After-lowest32 Inv-loop μ-loop
+abbrev least : tie.After-union64 Inv-loop μ-loop → tie.After-lowest64 Inv-loop μ-loop
 least c = c .before .before .before .before
 
-loop-holds : tie.Need-loop-holds Inv-loop μ-loop
-loop-holds c = along-none _ _ _ (search needs) (gives-none _ _)
+-- the peer taken is one of 32
+small : (c : tie.After-lowest64 Inv-loop μ-loop) → c .lowest64 .result < 32
+small c = least-narrow (search needs) (c .before .before .loop .inv .below) (c .lowest64 .ensures .0) .1
 
-lowest32-requires : tie.Need-lowest32-requires Inv-loop μ-loop
-lowest32-requires c κs = search needs
+loop-holds : tie.Need-loop-holds Inv-loop μ-loop
+loop-holds c = visiting-none 32 _ _ _ (search needs)
+
+lowest64-requires : tie.Need-lowest64-requires Inv-loop μ-loop
+lowest64-requires c κs = search needs
 
 cast-q : tie.Need-cast-q Inv-loop μ-loop
 cast-q c = search needs
@@ -31,13 +38,13 @@ mul-union64 : tie.Need-mul-union64 Inv-loop μ-loop
 mul-union64 c = search needs
 
 element-copy-out-union64 : tie.Need-element-copy-out-union64 Inv-loop μ-loop
-element-copy-out-union64 c = search needs
+element-copy-out-union64 c = small c
 
 mul-minus64 : tie.Need-mul-minus64 Inv-loop μ-loop
 mul-minus64 c = search needs
 
 element-copy-out-minus64 : tie.Need-element-copy-out-minus64 Inv-loop μ-loop
-element-copy-out-minus64 c = search needs
+element-copy-out-minus64 c = small (c .before)
 
 minus64-requires : tie.Need-minus64-requires Inv-loop μ-loop
 minus64-requires c κs = search needs
@@ -49,22 +56,24 @@ mul-pending : tie.Need-mul-pending Inv-loop μ-loop
 mul-pending c = search needs
 
 element-write-pending : tie.Need-element-write-pending Inv-loop μ-loop
-element-write-pending c = search needs
+element-write-pending c = small (least c)
 
-rest32-requires : tie.Need-rest32-requires Inv-loop μ-loop
-rest32-requires c κs = search needs
+rest64-requires : tie.Need-rest64-requires Inv-loop μ-loop
+rest64-requires c κs = search needs
 
 loop-less : tie.Need-loop-less Inv-loop μ-loop
-loop-less c = search needs
+loop-less c = size-less 64 (search needs) (search needs) (c .rest64 .ensures .0)
 
 loop-again : tie.Need-loop-again Inv-loop μ-loop
+unfolding puts
 loop-again c =
     let low = least (c .before) in
-    giving _ _ (low .before .before .loop .inv) (search needs) (low .lowest32 .ensures .0) (c .rest32 .ensures .0)
+    visiting-wide (low .before .before .loop .inv) (search needs) (low .lowest64 .ensures .0) (c .rest64 .ensures .0)
     (c .before .union64 .ensures ∙ ap (union _) (c .before .before .minus64 .ensures))
 
 returns : tie.Need-returns Inv-loop μ-loop
-returns c = (along-done (c .before .loop .inv) (c .loop-test .left), search needs)
+unfolding gives
+returns c = (visiting-done (c .before .loop .inv) (c .loop-test .left) ∙ visits-edit _ 32 _ _ (search needs), search needs)
 
 pub give-set-spec : {M : Type 1} → statement M
 give-set-spec =
@@ -73,7 +82,7 @@ give-set-spec =
     Inv-loop
     μ-loop
     loop-holds
-    lowest32-requires
+    lowest64-requires
     cast-q
     mul-union64
     element-copy-out-union64
@@ -83,7 +92,7 @@ give-set-spec =
     union64-requires
     mul-pending
     element-write-pending
-    rest32-requires
+    rest64-requires
     loop-less
     loop-again
     returns)

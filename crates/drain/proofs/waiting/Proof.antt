@@ -24,14 +24,14 @@ abbrev μ-loop : tie.MeasureT-loop
 loop-holds : tie.Need-loop-holds Inv-loop μ-loop
 loop-holds c = (omega arith, sum-start _, omega arith, all-start _)
 
-mul-members : tie.Need-mul-members Inv-loop μ-loop
-mul-members c = search needs
+mul-how-many : tie.Need-mul-how-many Inv-loop μ-loop
+mul-how-many c = search needs
 
-element-copy-out-members : tie.Need-element-copy-out-members Inv-loop μ-loop
-element-copy-out-members c = search needs
+element-copy-out-how-many : tie.Need-element-copy-out-how-many Inv-loop μ-loop
+element-copy-out-how-many c = search needs
 
-members-requires : tie.Need-members-requires Inv-loop μ-loop
-members-requires c κs = search needs
+how-many-requires : tie.Need-how-many-requires Inv-loop μ-loop
+how-many-requires c κs = search needs
 
 add-total : tie.Need-add-total Inv-loop μ-loop
 add-total c = omega arith
@@ -47,9 +47,9 @@ loop-again c =
     let turn = c .before .before .before in
     let w = getD (turn .before .args .pending .now) (turn .loop .p) 0 in (
       omega arith,
-      ap₂ _+_ (turn .loop .inv .1) (c .members .ensures .0) ∙ sym (sum-more _ _),
+      ap₂ _+_ (turn .loop .inv .1) (c .how-many .ensures .0) ∙ sym (sum-more _ _),
       omega arith,
-      empty-more (turn .loop .total) w (c .members .ensures .2) (c .members .ensures .0) (turn .loop .inv .3) ∙ sym (all-more _ _),
+      empty-more (turn .loop .total) w (c .how-many .ensures .2) (c .how-many .ensures .0) (turn .loop .inv .3) ∙ sym (all-more _ _),
     )
 
 returns : tie.Need-returns Inv-loop μ-loop
@@ -65,9 +65,9 @@ waiting-spec =
     Inv-loop
     μ-loop
     loop-holds
-    mul-members
-    element-copy-out-members
-    members-requires
+    mul-how-many
+    element-copy-out-how-many
+    how-many-requires
     add-total
     add-p
     loop-less

@@ -1,7 +1,7 @@
 -- Laws of specs/Pairs.antt. Assumes nothing.
 use mathlib.Core.Path.{_≡_, refl, sym, ap, _∙_, ap₂}
 use mathlib.Core.Logic.{_⊎_, inl, inr}
-use mathlib.Core.Bool.{Bool, true, false, cond, _&&_}
+use mathlib.Core.Bool.{Bool, true, cond, _&&_}
 use mathlib.Core.List.{List, [], _∷_, _++_}
 use Prim.Native.Nat.{ℕ, zero, suc, _+_, _-_, _^_, _≤_, _<_}
 use native.Mathlib.Nat.{sub-zero}
@@ -10,38 +10,17 @@ use lib.Dec.{eqb}
 use lib.ListN.{length, getD, take}
 use lib.Seq.{take-nil}
 use Rattle.sets.specs.Set.{has, minus, only, lowest, count, digit}
-use Rattle.sets.specs.laws.Bools.{below-suc, bool-ext, and-both, and-yes}
-use Rattle.sets.specs.laws.Members.{has-none, has-without, has-without-other}
+use Rattle.sets.specs.Rising.{rising}
+use Rattle.sets.specs.laws.Bools.{bool-ext, and-both, and-yes}
+use Rattle.sets.specs.laws.Members.{has-none}
 use Rattle.sets.specs.laws.Bounds.{minus-lt}
-use Rattle.sets.specs.laws.Lowest.{lowest-has, lowest-least, lowest-lt}
+use Rattle.sets.specs.laws.Rising.{rising-empty, rising-lowest}
 use Rattle.flooding.specs.Machine.{Pair, pair, run, todo, row}
 use borrow.Author.Tests.{eqb-true, eq-eqb}
 use Rattle.sets.specs.laws.Sums.{sum-same, sum-zero}
 use Rattle.sets.specs.laws.Counts.{size-count, size-empty}
 use Rattle.flooding.specs.Network.{Net}
 use Rattle.drain.specs.Pairs.{pairsOf, listOf}
-
--- Without members there is none.
-pub pairs-none : (p w k : ℕ) → ((m : ℕ) → m < k → has w m ≡ false) → pairsOf p w k ≡ []
-unfolding pairsOf
-pairs-none p w zero h = refl
-pairs-none p w (suc k) h = rw (pairs-none p w k (λ m l. h m (omega arith)), h k (omega arith))
-
--- A member with none below it comes first; then come the others.
-pub pairs-first : (p w m k : ℕ) → has w m ≡ true → ((j : ℕ) → j < m → has w j ≡ false) → m < k → pairsOf p w k ≡ pair p m ∷ pairsOf p (minus w (only m)) k
-unfolding pairsOf
-pairs-first p w m zero e none l = absurd (omega arith)
-pairs-first p w m (suc k) e none l = first (below-suc m k l) (λ l′. pairs-first p w m k e none l′)
-  where
-    first : (m < k) ⊎ (m ≡ k) → (m < k → pairsOf p w k ≡ pair p m ∷ pairsOf p (minus w (only m)) k)
-        → pairsOf p w k ++ cond (has w k) (pair p k ∷ []) [] ≡ pair p m ∷ (pairsOf p (minus w (only m)) k ++ cond (has (minus w (only m)) k) (pair p k ∷ []) [])
-    first (inl l′) ih = rw (ih l′, has-without-other w m k (λ (d : m ≡ k). omega arith))
-    first (inr d) ih =
-        rw (← d, pairs-none p w m none, pairs-none p (minus w (only m)) m (λ j b. has-without-other w m j (λ (x : m ≡ j). omega arith) ∙ none j b), e, has-without w m)
-
--- The least member comes first.
-pub pairs-lowest : (p w : ℕ) → 0 < w → w < 2 ^ 64 → pairsOf p w 64 ≡ pair p (lowest 64 w) ∷ pairsOf p (minus w (only (lowest 64 w))) 64
-pairs-lowest p w h b = pairs-first p w (lowest 64 w) 64 (lowest-has 64 w h b) (lowest-least 64 w) (lowest-lt 64 w h b)
 
 -- ---- forwards of one peer, while the budget lasts
 
@@ -78,7 +57,7 @@ module _ {S : Type 0} (fwd : S → ℕ → ℕ → S) (start : S) (p todo left :
       front : take (left - made) (pairsOf p rest 64) ≡ pair p m ∷ take (left - (made + 1)) (pairsOf p rest′ 64)
       front =
           let k : left - made ≡ suc (left - (made + 1)) = omega arith in
-          rw (k, pairs-lowest p rest h (v .below), em, er)
+          rw (k, rising-lowest (λ i. pair p i ∷ []) 64 rest h (v .below), em, er)
 
   -- after it: nothing is left, or the budget is spent
   pub walk-done : {now : S} {rest made : ℕ} → Walk now rest made → (rest ≡ 0) ⊎ (made ≡ left)
@@ -89,7 +68,7 @@ module _ {S : Type 0} (fwd : S → ℕ → ℕ → S) (start : S) (p todo left :
       (omega (arith, ap length e, v .count), sym (ap (λ (x : List Pair). run fwd now x) e) ∙ v .state)
     where
       empty : (rest ≡ 0) ⊎ (made ≡ left) → take (left - made) (pairsOf p rest 64) ≡ []
-      empty (inl d) = rw (d, pairs-none p 0 64 (λ m l. has-none m)) (take-nil (left - made))
+      empty (inl d) = rw (d, rising-empty (λ i. pair p i ∷ []) 64) (take-nil (left - made))
       empty (inr d) =
           let k : left - made ≡ 0 = omega arith in
           rw k
@@ -122,7 +101,7 @@ empty-more a w {k} {b} l h e = bool-ext there back
 
 -- A row of it has the pairs of p's word of pending messages.
 pub row-pairs : (s : Net) (p w k : ℕ) → ((m : ℕ) → s .pending p m ≡ has w m) → row s p k ≡ pairsOf p w k
-unfolding row pairsOf
+unfolding row rising
 row-pairs s p w zero h = refl
 row-pairs s p w (suc k) h = ap₂ (λ (l : List Pair) (b : Bool). l ++ cond b (pair p k ∷ []) []) (row-pairs s p w k h) (h k)
 

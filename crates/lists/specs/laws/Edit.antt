@@ -57,6 +57,34 @@ unfolding edit
 edit-edit f g [] = refl
 edit-edit f g (x ∷ l) = ap (λ (r : List ℕ). g 0 (f 0 x) ∷ r) (edit-edit (λ i. f (suc i)) (λ i. g (suc i)) l)
 
+-- what is edited by f, then by g, is edited by both
+pub edit-then : (f g h : ℕ → ℕ → ℕ) (l : List ℕ) → ((i x : ℕ) → g i (f i x) ≡ h i x) → edit g (edit f l) ≡ edit h l
+edit-then f g h l e = edit-edit f g l ∙ edit-same (λ i x. g i (f i x)) h l (λ i b. e i (getD l i 0))
+
+-- two edits that do the same at every place
+pub edit-alike : (f g : ℕ → ℕ → ℕ) (l : List ℕ) → ((i x : ℕ) → f i x ≡ g i x) → edit f l ≡ edit g l
+edit-alike f g l e = edit-same f g l (λ i b. e i (getD l i 0))
+
+-- one store, of h of what stands at k: g is f at every other place, and h of what f gives at k
+pub edit-store : (f g : ℕ → ℕ → ℕ) (h : ℕ → ℕ) (l : List ℕ) (k : ℕ) → ((i : ℕ) → (i ≡ k → ⊥) → (x : ℕ) → g i x ≡ f i x) → ((x : ℕ) → g k x ≡ h (f k x))
+    → set (edit f l) k (h (getD (edit f l) k 0)) ≡ edit g l
+edit-store f g h l k same e = is-edit g l r (length-set (edit f l) k v ∙ length-edit f l) λ i b. go i b (ℕ-discrete i k)
+  where
+    v : ℕ
+    v = h (getD (edit f l) k 0)
+
+    r : List ℕ
+    r = set (edit f l) k v
+
+    go : (i : ℕ) → i < length l → Dec (i ≡ k) → getD r i 0 ≡ g i (getD l i 0)
+    go i b (yes z) =
+        let c : k < length (edit f l) = omega (arith, length-edit f l) in
+        let s : getD r k 0 ≡ v = getD-set-same (edit f l) k v 0 c in
+        let d : k < length l = omega arith in
+        let t : v ≡ h (f k (getD l k 0)) = ap h (getD-edit f l k d) in
+        rw z (s ∙ t ∙ sym (e (getD l k 0)))
+    go i b (no z) = getD-set-other (edit f l) k i v 0 z ∙ getD-edit f l i b ∙ sym (same i z (getD l i 0))
+
 -- a bound on every number, past the end too
 pub edit-below : (f : ℕ → ℕ → ℕ) (l : List ℕ) (b : ℕ) → 0 < b → ((i : ℕ) → i < length l → f i (getD l i 0) < b) → (i : ℕ) → getD (edit f l) i 0 < b
 edit-below f l b z h i = go (decLt i (length l))

@@ -7,11 +7,12 @@ use native.Mathlib.Omega.{arith}
 use lib.Count.{onesIn, ones}
 use lib.ListN.{replicate}
 use Rattle.sets.specs.Set.{has, size}
+use Rattle.sets.specs.Rising.{rising}
 use Rattle.network.specs.declared.Network.{Network}
 use Rattle.network.specs.Network.{mk}
 use Rattle.report.specs.Text.{digits, decimal, spaced}
 use Rattle.report.specs.laws.TextLaws.{digits-long}
-use Rattle.report.specs.Report.{flood, peerWord, firstLine, countLine, peerLine, lineIf, linesTo, peerLines, reportOf}
+use Rattle.report.specs.Report.{flood, peerWord, firstLine, countLine, peerLine, peerLines, reportOf}
 
 -- 2 ^ 64 - 1 is printed as 18446744073709551615
 largest : decimal 18446744073709551615 ≡ 49 ∷ 56 ∷ 52 ∷ 52 ∷ 54 ∷ 55 ∷ 52 ∷ 52 ∷ 48 ∷ 55 ∷ 51 ∷ 55 ∷ 48 ∷ 57 ∷ 53 ∷ 53 ∷ 49 ∷ 54 ∷ 49 ∷ 53 ∷ []
@@ -41,5 +42,5 @@ printed =
 
 -- "For blank, a zero table, and H, produce 0/5, forward 0/5, forward 1/5"
 example : reportOf 0 0 6 after true ≡ printed
-unfolding after printed reportOf peerLines linesTo lineIf peerLine countLine firstLine flood peerWord spaced decimal digits size has ones onesIn
+unfolding after printed reportOf peerLines rising peerLine countLine firstLine flood peerWord spaced decimal digits size has ones onesIn
 example = refl

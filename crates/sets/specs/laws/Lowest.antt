@@ -1,12 +1,12 @@
 -- The least member, and a set without it. Assumes nothing.
 use mathlib.Core.Path.{_≡_, refl, sym, ap, _∙_}
 use mathlib.Core.Bool.{Bool, true, false, _&&_}
-use Prim.Native.Nat.{ℕ, zero, suc, _-_, _/_, _%_, _^_, _<_}
+use Prim.Native.Nat.{ℕ, zero, suc, _-_, _/_, _%_, _^_, _≤_, _<_}
 use native.Mathlib.Nat.{pow-suc, not-suc-le-zero, le-of-suc-le-suc, zero-lt-suc}
 use native.Mathlib.Omega.{arith}
 use lib.Dec.{eqb}
 use lib.Pow.{pow-pos}
-use lib.Bits.{bitAnd, and-step, and-self}
+use lib.Bits.{bitAnd, and-step, and-self, and-le-l}
 use lib.Count.{trailingZeros, under, trailing-of-zero}
 use Rattle.sets.specs.Set.{has, meet, minus, only, lowest}
 use Rattle.sets.specs.laws.Bools.{clash, and-eqb}
@@ -57,11 +57,24 @@ lowest-is k w t h e none =
     let above : t < lowest k w → ⊥ = λ l. clash e (lowest-least k w t l) in
     omega arith
 
+-- ---- a set of numbers below 32 in a word of 64 bits
+
+-- It has the same least member, which is below 32.
+pub least-narrow : {w q : ℕ} → 0 < w → w < 2 ^ 32 → q ≡ lowest 64 w → (q ≡ lowest 32 w) × (q < 32)
+least-narrow {w} {q} p h e = (e ∙ same, omega (arith, e, same, lowest-lt 32 w p h))
+  where
+    same : lowest 64 w ≡ lowest 32 w
+    same = lowest-is 64 w (lowest 32 w) (omega arith) (lowest-has 32 w p h) (lowest-least 32 w)
+
 -- The least member is the least number that is a member.
 pub lowest-lowestOf : (k w : ℕ) → w < 2 ^ k → lowest k w ≡ lowestOf k (has w)
 lowest-lowestOf k zero h = lowest-none k ∙ sym (lowestOf-none k (has 0) (λ i l. has-none i))
 lowest-lowestOf k (suc w) h =
     sym (lowestOf-is k (has (suc w)) (lowest k (suc w)) (lowest-lt k (suc w) (zero-lt-suc w) h) (lowest-has k (suc w) (zero-lt-suc w) h) (lowest-least k (suc w)))
+
+-- And the same others.
+pub rest-narrow : {w r : ℕ} → 0 < w → w < 2 ^ 32 → r ≡ minus w (only (lowest 64 w)) → r ≡ minus w (only (lowest 32 w))
+rest-narrow {w} p h e = e ∙ ap (λ (x : ℕ). minus w (only x)) (least-narrow p h refl .0)
 
 -- ---- a member that is taken away
 
@@ -74,6 +87,11 @@ meet-only w i h =
 pub meet-only-none : (w i : ℕ) → has w i ≡ false → meet w (only i) ≡ 0
 meet-only-none w i h =
     none-empty (meet w (only i)) (λ j. simp (has-meet, has-only) (and-eqb (has w) i j ∙ ap (λ (x : Bool). x && eqb i j) h))
+
+-- A member's bit is in w.
+pub only-le : (w i : ℕ) → has w i ≡ true → only i ≤ w
+unfolding meet
+only-le w i h = let l = and-le-l w (only i) in omega (arith, meet-only w i h, l)
 
 -- A member that is taken away takes its bit.
 pub minus-only : (w i : ℕ) → has w i ≡ true → minus w (only i) ≡ w - 2 ^ i

@@ -165,4 +165,4 @@ pub has-without-other : (w i j : ℕ) → (i ≡ j → ⊥) → has (minus w (on
 has-without-other w i j d = simp (has-minus, has-only, ne-eqb d) (and-true (has w j))
 
 -- The members of the operations' results, for `simp`.
-pub ruleset members = (has-union, has-meet, has-minus, has-none, has-only)
+pub ruleset membership = (has-union, has-meet, has-minus, has-none, has-only)

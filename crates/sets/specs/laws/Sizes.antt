@@ -78,3 +78,7 @@ without-stranger w i h = omega (arith, meet-only-none w i h)
 -- The least member is taken away.
 pub size-rest : (k w : ℕ) → 0 < w → w < 2 ^ k → suc (size (minus w (only (lowest k w)))) ≡ size w
 size-rest k w p h = size-without w (lowest k w) (lowest-has k w p h)
+
+-- So what is left has fewer: the measure of a loop over the members.
+pub size-less : {w r : ℕ} (k : ℕ) → 0 < w → w < 2 ^ k → r ≡ minus w (only (lowest k w)) → size r < size w
+size-less {w} k p h e = omega (arith, ap size e, size-rest k w p h)

@@ -2,11 +2,13 @@
 use mathlib.Core.Path.{_≡_, sym, ap, _∙_}
 use mathlib.Core.Logic.{⊎-elim}
 use mathlib.Core.Bool.{true, false, not}
-use Prim.Native.Nat.{ℕ}
-use Rattle.sets.specs.Set.{has, union, meet, minus, Subset}
+use Prim.Native.Nat.{ℕ, _≤_, _<_}
+use native.Mathlib.Omega.{arith}
+use Rattle.sets.specs.Set.{has, union, meet, minus, Subset, size}
 use Rattle.sets.specs.laws.Bools.{clash, bool-ext, not-no, and-both, and-yes, and-no, and-fails, or-left, or-yes}
 use Rattle.sets.specs.laws.Members.{has-union, has-meet, has-none, ext, has-minus}
 use Rattle.sets.specs.laws.Lowest.{none-empty}
+use Rattle.sets.specs.laws.Sizes.{size-minus-meet, size-without}
 
 -- The union has each of the two.
 pub subset-union : (a b : ℕ) → Subset a (union a b)
@@ -74,3 +76,13 @@ meet-none a b h = none-empty (meet a b) (λ i. has-meet a b i ∙ and-no (has a 
 pub meet-of-subset : (a b : ℕ) → Subset b a → meet a b ≡ b
 unfolding Subset
 meet-of-subset a b h = subset-eq (meet a b) b (subset-meet-right a b) (λ i e. has-meet a b i ∙ and-both (h i e) e)
+
+-- A part has no more members than the whole;
+pub size-part : (a b : ℕ) → Subset b a → size b ≤ size a
+size-part a b h = omega (arith, size-minus-meet a b, ap size (meet-of-subset a b h))
+
+-- fewer, where it lacks one.
+pub size-part-lt : (a b i : ℕ) → Subset b a → has a i ≡ true → has b i ≡ false → size b < size a
+size-part-lt a b i h x y =
+    let z : has (minus a b) i ≡ true = has-minus a b i ∙ rw (x, y) in
+    omega (arith, size-minus-meet a b, ap size (meet-of-subset a b h), size-without (minus a b) i z)

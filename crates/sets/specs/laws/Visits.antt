@@ -8,9 +8,9 @@ use lib.Dec.{eqb}
 use lib.Pow.{pow-pos}
 use Rattle.sets.specs.Set.{has, union, minus, only, when, puts, withIf, setOf, sift, Subset, lowest}
 use Rattle.sets.specs.laws.Bools.{clash, or-right, or-yes, eqb-same, ne-eqb}
-use Rattle.sets.specs.laws.Members.{has-union, has-none, has-only, ext, has-minus, members}
+use Rattle.sets.specs.laws.Members.{has-union, has-none, has-only, ext, has-minus, membership}
 use Rattle.sets.specs.laws.Bounds.{minus-lt}
-use Rattle.sets.specs.laws.Build.{has-withIf, withIf-lt, setOf-lt, has-setOf, is-setOf}
+use Rattle.sets.specs.laws.Build.{has-withIf, withIf-lt, setOf-lt, has-setOf, is-setOf, sift-lt}
 use Rattle.sets.specs.laws.Lowest.{lowest-has, lowest-lt, none-empty}
 use Rattle.sets.specs.laws.Subsets.{subset-minus, subset-trans}
 
@@ -22,7 +22,7 @@ minus-self s = none-empty (minus s s) (λ i. has-minus s s i ∙ and-not-self (h
 
 -- All, at the end.
 pub minus-none : (s : ℕ) → minus s 0 ≡ s
-minus-none s = ext (minus s 0) s (λ i. simp members (and-true (has s i)))
+minus-none s = ext (minus s 0) s (λ i. simp membership (and-true (has s i)))
 
 -- What is left is a part of s: at the start, and after a step.
 pub subset-self : (s : ℕ) → Subset s s
@@ -35,7 +35,7 @@ subset-step left s x h = subset-trans (minus left x) left s (subset-minus left x
 -- q, which is left, is visited.
 pub visit-step : (left s q : ℕ) → Subset left s → has left q ≡ true → minus s (minus left (only q)) ≡ union (minus s left) (only q)
 unfolding Subset
-visit-step left s q h e = ext (minus s (minus left (only q))) (union (minus s left) (only q)) (λ i. simp members (go i (eqb q i) refl))
+visit-step left s q h e = ext (minus s (minus left (only q))) (union (minus s left) (only q)) (λ i. simp membership (go i (eqb q i) refl))
   where
     go : (i : ℕ) (x : Bool) → eqb q i ≡ x → has s i && not (has left i && not x) ≡ (has s i && not (has left i)) || x
     go i true t = rw (ap (has s) (sym (eqb-true q i t)) ∙ h q e, and-false (has left i), or-true (not (has left i)))
@@ -96,28 +96,32 @@ visit-none k s p h = record {
   filled = sym (setOf-none k (λ (i : ℕ). has (minus s s) i && p i) (λ i. rw (minus-self s, has-none i)));
 }
 
--- The least that is left is visited.
-visit-any : (k s left r : ℕ) (p : ℕ → Bool) → Visit k s left r p → 0 < left
-    → Visit k s (minus left (only (lowest k left))) (withIf (p (lowest k left)) (lowest k left) r) p
-visit-any k s left r p v h = record {
-  below = minus-lt k left (only (lowest k left)) (v .below);
-  within = subset-step left s (only (lowest k left)) (v .within);
+-- q, the least that is left, is visited, and put in if it passes.
+pub visit-put : {k s left left′ r r′ q : ℕ} {p : ℕ → Bool} → Visit k s left r p → 0 < left → q ≡ lowest k left → left′ ≡ minus left (only (lowest k left))
+    → r′ ≡ withIf (p q) q r → Visit k s left′ r′ p
+visit-put {k} {s} {left} {left′} {r} {r′} {q} {p} v h eq el er = record {
+  below = rw el (minus-lt k left (only (lowest k left)) (v .below));
+  within = rw el (subset-step left s (only (lowest k left)) (v .within));
   filled =
-      ap (withIf (p (lowest k left)) (lowest k left)) (v .filled)
-      ∙ sym (sift-step k left s (lowest k left) p (lowest-lt k left h (v .below)) (v .within) (lowest-has k left h (v .below)));
+      er ∙ ap (withIf (p q) q) (v .filled)
+      ∙ rw (el, eq) (sym (sift-step k left s (lowest k left) p (lowest-lt k left h (v .below)) (v .within) (lowest-has k left h (v .below))));
 }
 
--- It passes, and is put in.
+-- It passes.
 pub visit-yes : {k s left left′ r r′ q : ℕ} {p : ℕ → Bool} → Visit k s left r p → 0 < left → q ≡ lowest k left → left′ ≡ minus left (only (lowest k left))
     → p q ≡ true → r′ ≡ union r (only q) → Visit k s left′ r′ p
 unfolding when puts
-visit-yes v h eq el y er = rw (el, er, sym eq) (rw (sym eq, y) at (visit-any _ _ _ _ _ v h))
+visit-yes {r = r} {q = q} v h eq el y er = visit-put v h eq el (er ∙ ap (λ (b : Bool). withIf b q r) (sym y))
 
 -- It does not.
 pub visit-no : {k s left left′ r q : ℕ} {p : ℕ → Bool} → Visit k s left r p → 0 < left → q ≡ lowest k left → left′ ≡ minus left (only (lowest k left))
     → p q ≡ false → Visit k s left′ r p
 unfolding when puts
-visit-no v h eq el y = rw (el, sym eq) (rw (sym eq, y) at (visit-any _ _ _ _ _ v h))
+visit-no {r = r} {q = q} v h eq el y = visit-put v h eq el (ap (λ (b : Bool). withIf b q r) (sym y))
+
+-- What is in r are numbers of k bits.
+pub visit-lt : {k s left r : ℕ} {p : ℕ → Bool} → Visit k s left r p → r < 2 ^ k
+visit-lt {k} {s} {left} {p = p} v = rw (v .filled) (sift-lt k (minus s left) p)
 
 -- After the loop.
 pub visit-done : {k s left r : ℕ} {p : ℕ → Bool} → Visit k s left r p → left ≡ 0 → r ≡ sift k s p

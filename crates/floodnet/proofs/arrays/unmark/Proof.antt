@@ -1,28 +1,27 @@
 -- `floodnet::arrays::unmark` meets its contract. Assumes nothing.
 use borrow.Author.Needs.{needs}
-use Rattle.sets.specs.Set.{has, only, strikes}
-use Rattle.sets.specs.laws.Members.{has-none}
-use Rattle.floodnet.specs.laws.CodeVisit.{along-done}
-use Rattle.floodnet.proofs.CodeChoices.{Picking, picking-none}
-use Rattle.floodnet.proofs.CodeArrays.{marking}
+use mathlib.Core.Path.{_∙_}
+use Rattle.sets.specs.Set.{only, strikes, size}
+use Rattle.sets.specs.laws.Sizes.{size-less}
+use Rattle.lists.specs.laws.Visit.{Visiting, visiting-none, visiting-more, visiting-done, visits-edit}
 use Rattle.floodnet.proofs.arrays.unmark.Statement.{statement}
 use Rattle.floodnet.proofs.arrays.unmark.Tie as tie
 
 abbrev Inv-loop : tie.InvT-loop
-Inv-loop neighbours₀ who i left₀ neighbours left = Picking who left has (strikes (only i)) neighbours₀ neighbours
+Inv-loop neighbours₀ who i left₀ neighbours left = Visiting 32 who left (λ q. strikes (only i)) neighbours₀ neighbours
 
 abbrev μ-loop : tie.MeasureT-loop
-μ-loop neighbours₀ who i left₀ neighbours left = left
+μ-loop neighbours₀ who i left₀ neighbours left = size left
 
--- from where a peer was struck from those left: where it was found
-abbrev found : tie.After-rest32 Inv-loop μ-loop → tie.After-lowest32 Inv-loop μ-loop
-found c = c .before .before .before
+-- from where a peer's word was made: where the peer was found
+abbrev found : tie.After-without32 Inv-loop μ-loop → tie.After-lowest32 Inv-loop μ-loop
+found c = c .before .before
 
 cast-i : tie.Need-cast-i Inv-loop μ-loop
 cast-i c = search needs
 
 loop-holds : tie.Need-loop-holds Inv-loop μ-loop
-loop-holds c = picking-none _ _ _ _ (search needs) has-none
+loop-holds c = visiting-none 32 _ _ _ (search needs)
 
 lowest32-requires : tie.Need-lowest32-requires Inv-loop μ-loop
 lowest32-requires c κs = search needs
@@ -49,16 +48,16 @@ rest32-requires : tie.Need-rest32-requires Inv-loop μ-loop
 rest32-requires c κs = search needs
 
 loop-less : tie.Need-loop-less Inv-loop μ-loop
-loop-less c = search needs
+loop-less c = size-less 32 (search needs) (search needs) (c .rest32 .ensures .0)
 
 loop-again : tie.Need-loop-again Inv-loop μ-loop
 unfolding strikes
 loop-again c =
-    marking _ (found c .before .before .loop .inv) (search needs) (found c .lowest32 .ensures .0) (c .rest32 .ensures .0)
+    visiting-more (found (c .before) .before .before .loop .inv) (search needs) (found (c .before) .lowest32 .ensures .0) (c .rest32 .ensures .0)
     (c .before .without32 .ensures)
 
 returns : tie.Need-returns Inv-loop μ-loop
-returns c = along-done (c .before .loop .inv) (c .loop-test .left)
+returns c = visiting-done (c .before .loop .inv) (c .loop-test .left) ∙ visits-edit _ 32 _ _ (search needs)
 
 pub unmark-spec : {M : Type 1} → statement M
 unmark-spec =

@@ -8,7 +8,7 @@ use Rattle.floodnet.proofs.messages.forward.Statement.{statement}
 use Rattle.floodnet.proofs.messages.forward.Tie as tie
 
 -- from where the holders are asked for: where the topic's spot was found
-abbrev spotted : tie.After-holders-arg2 → tie.After-spot
+abbrev spotted : tie.After-lacking-arg2 → tie.After-spot
 spotted c = c .before .before .before
 
 cast-i : tie.Need-cast-i
@@ -59,11 +59,8 @@ mul-near c = search needs
 element-copy-out-near : tie.Need-element-copy-out-near
 element-copy-out-near c = omega (arith, ap (λ (t : Topic). t .0) (c .before .topic-of .ensures))
 
-holders-requires : tie.Need-holders-requires
-holders-requires c κs = search needs
-
-minus32-requires : tie.Need-minus32-requires
-minus32-requires c κs = search needs
+lacking-requires : tie.Need-lacking-requires
+lacking-requires c κs = search needs
 
 give-requires : tie.Need-give-requires
 give-requires c κs = search needs
@@ -71,13 +68,12 @@ give-requires c κs = search needs
 returns : tie.Need-returns
 returns c =
     let r = c .before .before in
-    let h = r .before in
-    let k = spotted (h .before) in
+    let k = spotted (r .before) in
     let t = k .before in
     let w = t .before in
     let v = w .before .before in (
-      receivers-law _ _ _ _ _ _ _ _ _ _ _ _ (t .topic-of .ensures) (k .spot .ensures) (v .without64 .ensures) (w .with64 .ensures) (h .holders .ensures) (r .minus32 .ensures),
-      forwarded-law _ _ _ _ _ _ _ _ _ _ _ _ (t .topic-of .ensures) (k .spot .ensures) (v .without64 .ensures) (w .with64 .ensures) (h .holders .ensures) (r .minus32 .ensures) _ (c .give .ensures),
+      receivers-law _ _ _ _ _ _ _ _ _ _ _ (t .topic-of .ensures) (k .spot .ensures) (v .without64 .ensures) (w .with64 .ensures) (r .lacking .ensures),
+      forwarded-law _ _ _ _ _ _ _ _ _ _ _ (t .topic-of .ensures) (k .spot .ensures) (v .without64 .ensures) (w .with64 .ensures) (r .lacking .ensures) _ (r .lacking .ok) (c .give .ensures),
     )
 
 pub forward-spec : {M : Type 1} → statement M
@@ -100,7 +96,6 @@ forward-spec =
     spot-requires
     mul-near
     element-copy-out-near
-    holders-requires
-    minus32-requires
+    lacking-requires
     give-requires
     returns)

@@ -7,7 +7,7 @@ use Rattle.network.specs.declared.Topic.{Topic}
 use Rattle.network.specs.Network.{withPresent, withPubs, withPending, withSeen}
 use Rattle.floodnet.specs.Produce.{isNew}
 use Rattle.floodnet.specs.Refusals.{refusalProduce}
-use Rattle.floodnet.proofs.CodeRefusals.{need-fails, need-holds, test-fails, test-holds, test-topic, some-fails, none-holds, holders-is}
+use Rattle.floodnet.proofs.CodeRefusals.{need-fails, need-holds, test-fails, test-holds, test-topic, some-held, none-held}
 use Rattle.floodnet.proofs.refusals.of_produce.Statement.{statement}
 use Rattle.floodnet.proofs.refusals.of_produce.Tie as tie
 
@@ -65,8 +65,8 @@ returns-3 c =
     let e1 = present (e2 .before) in
     λ n. need-holds _ _ _ (test-holds (e1 .before .has32 .ensures) (e1 .if1 .left)) (need-holds _ _ _ (eq-eqb _ _ (e2 .if2 .left)) (need-fails _ _ _ (test-fails (test-topic _ (h .has322 .ensures) (t .topic-of .ensures)) (c .if3 .taken))))
 
-holders-requires : tie.Need-holders-requires
-holders-requires c κs = search needs
+lacking-requires : tie.Need-lacking-requires
+lacking-requires c κs = search needs
 
 returns-4 : tie.Need-returns-4
 unfolding refusalProduce isNew
@@ -77,7 +77,7 @@ returns-4 c =
     let e2 = t .before in
     let e1 = present (e2 .before) in
     λ n. need-holds _ _ _ (test-holds (e1 .before .has32 .ensures) (e1 .if1 .left)) (need-holds _ _ _ (eq-eqb _ _ (e2 .if2 .left))
-    (need-holds _ _ _ (test-holds (test-topic _ (h .has322 .ensures) (t .topic-of .ensures)) (e3 .if3 .left)) (need-fails _ _ _ (some-fails (holders-is (withPresent (withPubs (withPending (withSeen n _) _) _) _) _ _ (c .before .holders .ensures)) (c .if4 .taken)))))
+    (need-holds _ _ _ (test-holds (test-topic _ (h .has322 .ensures) (t .topic-of .ensures)) (e3 .if3 .left)) (need-fails _ _ _ (some-held (withPresent (withPubs (withPending (withSeen n _) _) _) _) _ _ (c .before .lacking .ensures) (c .if4 .taken)))))
 
 returns-5 : tie.Need-returns-5
 unfolding refusalProduce isNew
@@ -88,7 +88,7 @@ returns-5 c =
     let e2 = t .before in
     let e1 = present (e2 .before) in
     λ n. need-holds _ _ _ (test-holds (e1 .before .has32 .ensures) (e1 .if1 .left)) (need-holds _ _ _ (eq-eqb _ _ (e2 .if2 .left))
-    (need-holds _ _ _ (test-holds (test-topic _ (h .has322 .ensures) (t .topic-of .ensures)) (e3 .if3 .left)) (need-holds _ _ _ (none-holds (holders-is (withPresent (withPubs (withPending (withSeen n _) _) _) _) _ _ (c .before .holders .ensures)) (c .if4 .left)) refl)))
+    (need-holds _ _ _ (test-holds (test-topic _ (h .has322 .ensures) (t .topic-of .ensures)) (e3 .if3 .left)) (need-holds _ _ _ (none-held (withPresent (withPubs (withPending (withSeen n _) _) _) _) _ _ (search needs) (c .before .lacking .ensures) (c .if4 .left)) refl)))
 
 pub of-produce-spec : {M : Type 1} → statement M
 of-produce-spec =
@@ -107,6 +107,6 @@ of-produce-spec =
     cast-has32-3
     has32-requires-2
     returns-3
-    holders-requires
+    lacking-requires
     returns-4
     returns-5)

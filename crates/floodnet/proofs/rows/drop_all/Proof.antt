@@ -2,7 +2,7 @@
 use borrow.Author.Needs.{needs}
 use mathlib.Core.Path.{_∙_}
 use Rattle.sets.specs.Set.{strikes}
-use Rattle.floodnet.specs.laws.CodeVisit.{along-done}
+use Rattle.floodnet.proofs.CodeVisit.{along-done}
 use Rattle.floodnet.proofs.CodeChoices.{Picking, picking-none}
 use Rattle.floodnet.proofs.CodeWalks.{rows, rows-none, rows-dropped, dropping-row}
 use Rattle.floodnet.proofs.rows.drop_all.Statement.{statement}

@@ -1,6 +1,6 @@
 -- `floodnet::rows::learn` meets its contract. Assumes nothing.
 use borrow.Author.Needs.{needs}
-use Rattle.floodnet.specs.laws.CodeVisit.{Along, along-none, along-done}
+use Rattle.floodnet.proofs.CodeVisit.{Along, along-none, along-done}
 use Rattle.floodnet.specs.Lent.{learnt}
 use Rattle.floodnet.proofs.CodeWalks.{learnt-none, learning}
 use Rattle.floodnet.proofs.rows.learn.Statement.{statement}

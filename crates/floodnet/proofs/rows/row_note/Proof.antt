@@ -2,7 +2,7 @@
 use borrow.Author.Needs.{needs}
 use mathlib.Core.Path.{_∙_}
 use Rattle.sets.specs.Set.{only, puts}
-use Rattle.floodnet.specs.laws.CodeVisit.{along-done}
+use Rattle.floodnet.proofs.CodeVisit.{along-done}
 use Rattle.floodnet.proofs.CodeChoices.{Picking, picking-none}
 use Rattle.floodnet.proofs.CodeArrays.{inside, inside-no-topic, inside-noted, noting}
 use Rattle.floodnet.proofs.rows.row_note.Statement.{statement}

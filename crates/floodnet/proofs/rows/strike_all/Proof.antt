@@ -2,7 +2,7 @@
 use borrow.Author.Needs.{needs}
 use mathlib.Core.Path.{sym, _∙_}
 use Rattle.sets.specs.Set.{only, strikes}
-use Rattle.floodnet.specs.laws.CodeVisit.{along-done}
+use Rattle.floodnet.proofs.CodeVisit.{along-done}
 use Rattle.floodnet.proofs.CodeChoices.{strikes-twice, Picking, picking-none}
 use Rattle.floodnet.proofs.CodeArrays.{inside, inside-no-peer, inside-struck}
 use Rattle.floodnet.proofs.CodeWalks.{noting-row}

@@ -1,11 +1,11 @@
--- `drain::members` meets its contract. Assumes nothing.
+-- `drain::how_many` meets its contract. Assumes nothing.
 use mathlib.Core.Path.{sym, _∙_}
 use native.Mathlib.Omega.{arith}
 use borrow.Author.Needs.{needs}
 use Rattle.sets.specs.laws.Sizes.{size-none}
 use Rattle.sets.specs.laws.Counts.{size-count}
-use Rattle.drain.proofs.members.Statement.{statement}
-use Rattle.drain.proofs.members.Tie as tie
+use Rattle.drain.proofs.how_many.Statement.{statement}
+use Rattle.drain.proofs.how_many.Tie as tie
 
 returns : tie.Need-returns
 returns c =
@@ -18,5 +18,5 @@ size64-requires c κs = search needs
 returns-2 : tie.Need-returns-2
 returns-2 c = (c .size64 .ensures .0 ∙ size-count 64 _ (search needs), c .size64 .ensures .1, search needs)
 
-pub members-spec : {M : Type 1} → statement M
-members-spec = tie.close (tie.spec returns size64-requires returns-2)
+pub how-many-spec : {M : Type 1} → statement M
+how-many-spec = tie.close (tie.spec returns size64-requires returns-2)

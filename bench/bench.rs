@@ -23,6 +23,8 @@ fn main() {
     rows(&tasks);
     let laid = laying(&tasks[0]);
     println!("\nA run, a forward and a drain begin with laying the state into the buffer: about {laid:.0} ns of each of their times.");
+    println!("\n## Forwards\n");
+    rows(&tasks::over_links());
     println!("\n## Growth over events\n");
     events();
     println!("\n## Growth over desks\n");

@@ -54,13 +54,14 @@ fn held(r: &Record) -> u64 {
 }
 
 /// The numbers of a set, rising.
-fn members(mut s: u32) -> impl Iterator<Item = usize> {
+fn members(s: u32) -> impl Iterator<Item = usize> {
+    let mut left = u64::from(s);
     std::iter::from_fn(move || {
-        if s == 0 {
+        if left == 0 {
             return None;
         }
-        let q = s.trailing_zeros() & 31;
-        s &= s - 1;
+        let q = left.trailing_zeros() & 31;
+        left &= left - 1;
         Some(q as usize)
     })
 }

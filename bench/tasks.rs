@@ -137,14 +137,32 @@ pub fn tasks() -> Vec<Task> {
     ]
 }
 
-/// How many mixed events the runs of the second table have. The first is the fixed cost.
+/// Forwards among few desks and many, with few links and all: the second table.
+pub fn over_links() -> Vec<Task> {
+    let networks = [
+        (3, Links::Line, "a line of 3"),
+        (3, Links::Dense, "3 desks all linked"),
+        (32, Links::Line, "a line of 32"),
+        (32, Links::Dense, "32 desks all linked"),
+    ];
+    let single = networks.map(|(size, links, desks)| {
+        let made: [&[u8]; 2] = [&inputs::desks(size, links, 1), &produced(1)];
+        Task::new(format!("a single forward, {desks}"), 1, &made, Call::Forward { peer: 0, message: 0 })
+    });
+    let runs = networks.map(|(size, links, desks)| {
+        run_task(format!("run of 256 events, 192 of them forwards, {desks}"), &inputs::desks(size, links, 1), forwards())
+    });
+    single.into_iter().chain(runs).collect()
+}
+
+/// How many mixed events the runs of the third table have. The first is the fixed cost.
 pub const COUNTS: [usize; 5] = [0, 1, 16, 256, 4096];
 
 pub fn over_events() -> Vec<Task> {
     COUNTS.map(|n| run_task(format!("run of {n} mixed events"), &three(), mixed(n))).into()
 }
 
-/// One list of events, and drains, with more and more desks: the third table.
+/// One list of events, and drains, with more and more desks: the fourth table.
 pub fn over_desks() -> Vec<Task> {
     let sizes = [3, 8, 16, 32];
     let runs = sizes.map(|n| run_task(format!("run of 256 events, a line of {n}"), &desks(n, Links::Line, 1), forwards()));

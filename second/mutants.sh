@@ -2,7 +2,7 @@
 # Does the comparison find slips? For each one of slips.sh, plants it in a copy of the model, lets the copy
 # stand in for the engine or its run program, and demands that the comparison ends with a difference. The
 # slips are those that 01 guards against, its useless versions, one for most conditions, orders and counts,
-# E2's receivers, and bytes read or written that are not the engine's.
+# E2's receivers, E4's visits, and bytes read or written that are not the engine's.
 #
 #   second/mutants.sh [--process] [NAME..]    all of them, or these; some minutes
 #   second/mutants.sh --gate                  those named below and a few that the commit picks, after run.sh has

@@ -124,6 +124,14 @@ slip refused-by-13-reaches calls.rs "$(reaching 'refusal.number == 13')"
 slip unsound-reaches calls.rs "$(reaching 'refusal.number >= 20')"
 slip refused-is-counted calls.rs 's/Err(refusal) => Forwarded::refused(refusal),/Err(refusal) if refusal.number == 13 => Forwarded { deliveries: 1, ..Forwarded::refused(refusal) },\n        &/'
 
+# E4, who is visited. The answer names all receivers, and one of them does not get the message: the last of several, desk 31, desk 0.
+without() { # PEER, an option of a peer: the edit by which it is passed over
+    printf '%s' "s/^    Ok(receivers)/    let passed: Option<Peer> = $1;\\n    if let Some(q) = passed { network.at_mut(q).pending.remove(\\&message); }\\n    Ok(receivers)/"
+}
+slip last-receiver-passed-over events.rs "$(without 'receivers.iter().skip(1).next_back().copied()')"
+slip desk-31-passed-over events.rs "$(without 'receivers.get(\&Peer(31)).copied()')"
+slip desk-0-passed-over events.rs "$(without 'receivers.get(\&Peer(0)).copied()')"
+
 # 16 bits where more are needed
 slip answers-modulo-65536 standin.rs 's/CAnswer { number, detail, place, accepted }/CAnswer { number, detail, place: place % 65536, accepted: accepted % 65536 }/' '--only long'
 slip accepted-modulo-65536 standin.rs 's/CAnswer { number, detail, place, accepted }/CAnswer { number, detail, place, accepted: accepted % 65536 }/' '--only long'

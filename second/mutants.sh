@@ -18,7 +18,7 @@ mkdir -p "$out"
 
 gate='answers-modulo-65536 reads-beyond-events touches-table touches-refused-state writes-behind-tally leaver-stays
 back-to-seen-orders same-round image-own-pending new-at-origin lowest-rule-first neighbour-by-neighbour highest-topic
-receivers-still-pending reads-once'
+receivers-still-pending last-receiver-passed-over reads-once'
 
 # Every twenty-fourth of the others, beginning where the commit's hash says, so that each has its turn in a gate.
 picked() {

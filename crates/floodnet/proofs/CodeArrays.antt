@@ -1,4 +1,5 @@
--- The places at which the loops of src/arrays.rt change a list, and their turns. Assumes nothing.
+-- Who lacks a message, as `lacking` of src/arrays.rt finds it; and the places at which the loops of src/rows.rt change a row, and their turns.
+-- Assumes nothing.
 use mathlib.Core.Path.{_≡_, refl, sym, ap, _∙_}
 use mathlib.Core.Bool.{Bool, true, false, not, _&&_}
 use mathlib.Core.List.{List}

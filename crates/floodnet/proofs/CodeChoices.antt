@@ -1,4 +1,4 @@
--- Edits that do one thing, h, at the places that a test b picks. Most loops of src/arrays.rt and src/rows.rt make such an edit:
+-- Edits that do one thing, h, at the places that a test b picks. Most loops of src/rows.rt make such an edit:
 -- a set put in, struck out, or emptied, at some places. Assumes nothing.
 use mathlib.Core.Path.{_≡_, refl, sym, ap, _∙_}
 use mathlib.Core.Bool.{Bool, true, false, not, _&&_, _||_}

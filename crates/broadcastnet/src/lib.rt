@@ -8,6 +8,8 @@
 // observations, specs/laws/ImageNet.antt that the image is written as a sound network. docs/REFINEMENT.md compares with 004.
 //
 // The code works out the image of a network, as it is written.
+#![tactic(auto)]
+
 ghost use Rattle.std.specs.Prelude.{◌≡◌};
 ghost use Rattle.broadcastnet.specs.Commit.{together, without, image_net};
 

@@ -6,6 +6,8 @@
 // is 0, and what is printed is never longer. So the program only reads and writes.
 //
 // Read on: specs/Console.antt; its laws in proofs/ConsoleLaws.antt, among them 01's short inputs and the tie to the engine's run.
+#![tactic(auto)]
+
 ghost use Rattle.std.specs.Prelude.{◌≡◌, min};
 ghost use Rattle.console.specs.Console.{refused_text, text_of, flood_of, Printed};
 

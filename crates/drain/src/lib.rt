@@ -6,6 +6,8 @@
 // specs/AtOnce.antt and proofs/AtOnceForwards.antt: a peer's messages forwarded at once are its forwards one by one. A drain looks only at the
 // messages that are pending when it begins and at their topics: it files them once (proofs/Filing.antt), and no other message becomes pending
 // (proofs/Within.antt).
+#![tactic(auto)]
+
 ghost use Rattle.std.specs.Prelude.{◌≡◌, ℕ, ◌^◌, ◌<◌, ◌≤◌, eqb, length, get_or, take};
 ghost use Rattle.sets.specs.Set.{has, count};
 ghost use Rattle.lists.specs.Edit.{edit};

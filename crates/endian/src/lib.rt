@@ -5,6 +5,8 @@
 // is written back changes nothing, and that bytes, lengths and every other place stay as they were.
 //
 // Read on: specs/Le.antt, from its definitions down.
+#![tactic(auto)]
+
 ghost use Rattle.std.specs.Prelude.{◌≡◌, ◌+◌, ◌^◌, ◌≤◌, ◌<◌, length};
 ghost use Rattle.endian.specs.Le.{le, put_le};
 

@@ -6,6 +6,8 @@
 // specs/Draining.antt and specs/Imaging.antt. What follows from the promises, on bytes, is the crate pages. specs/laws/ has laws that others
 // cite (RunCounts.antt: what a run counts; RunSound.antt: soundness, and the pairs pending balance), proofs/ those of the functions' proofs;
 // proofs/relay_run is a walk by hand.
+#![tactic(auto)]
+
 mod alone; // alone.rt: reading, writing and the single forward
 mod counts; // counts.rt: the update of the tally
 mod draining; // draining.rt: the drain by rounds

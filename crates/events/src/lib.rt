@@ -10,6 +10,8 @@
 // promise here are equal.
 //
 // `new`, `next` and `event_at` hold a Reader and are proved by walks; callers use `event_at`, or `read_at`.
+#![tactic(auto)]
+
 ghost use Rattle.std.specs.Prelude.{◌≡◌, ◌+◌, ◌*◌, ◌/◌, ◌≤◌, ◌<◌, length, ltb};
 ghost use Rattle.events.specs.Event.{refused, reading_of, or_seven, joining_of, decode_of, fields_at, reading_at};
 ghost use Rattle.events.specs.Writing.{fields_mk, fields_of, put_head, put_fields, record_of, written_at};
@@ -58,7 +60,7 @@ pub struct Reading {
 }
 
 // The fields of a record, as they stand in its bytes; `subs` are the topics of subscribe and unsubscribe.
-#[derive(Drop)]
+#[derive(Clone, Copy)]
 pub struct Fields {
     pub code: u8,
     pub peer: u8,

@@ -1,5 +1,7 @@
 // The run program (document 01, "The run program"): reads a state, a table and events from standard input and prints how the run ended and
 // the present peers. It only reads and writes: what it prints is worked out by `console::answer`, which is proved to give 01's bytes.
+#![tactic(auto)]
+
 use libc::{STDIN_FILENO, STDOUT_FILENO};
 
 fn main() {

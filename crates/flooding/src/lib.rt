@@ -5,3 +5,5 @@
 // specs/Counts.antt (unseen pairs, pending pairs, deliveries) and specs/Machine.antt (runs, rounds, the drain, and what is
 // asked of a concrete state). specs/laws/Floods.antt, Drain.antt and Settled.antt prove the page; specs/laws/Loop.antt has laws for the
 // loops of a drain.
+#![tactic(auto)]
+

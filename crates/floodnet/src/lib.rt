@@ -2,6 +2,8 @@
 // its promise is one equation, that the network of the lent arrays becomes `after` (specs/Step.antt), and its answer is
 // `turned_of`. Read specs/Step.antt, then the definitions it puts together: Refusals, Produce, Forward, Topics, Links. The
 // words of the contracts on lent arrays are specs/Lent.antt; proofs/Code*.antt are laws that the proofs of functions use.
+#![tactic(auto)]
+
 ghost use Rattle.std.specs.Prelude.{◌≡◌};
 ghost use Rattle.network.specs.declared.Network.{Network};
 ghost use Rattle.network.specs.Network.{with_all, Rows};

@@ -4,6 +4,8 @@
 // specs/State.antt (the records) and specs/Rows.antt (the message table). What follows from them: specs/laws/SoundIff.antt (the
 // rules are soundness), specs/laws/SoundLaws.antt (what every sound network has), specs/laws/OpenedSound.antt (what is read is sound),
 // specs/laws/Trips.antt (read and written back, and the reverse), specs/laws/SameNetwork.antt (a network is its observations).
+#![tactic(auto)]
+
 mod load;
 mod rows;
 mod rules;
@@ -17,13 +19,13 @@ ghost use Rattle.network.specs.State.{blank_net, opened, open_of, Opens, bytes_o
 ghost use Rattle.network.specs.Rows.{blank_table, listed, list_of};
 
 // "A peer number, a topic number and a message number are separate sorts": none stands where another is meant.
-#[derive(Drop)]
+#[derive(Clone, Copy)]
 pub struct Peer(pub u8);
 
-#[derive(Drop)]
+#[derive(Clone, Copy)]
 pub struct Topic(pub u8);
 
-#[derive(Drop)]
+#[derive(Clone, Copy)]
 pub struct Message(pub u8);
 
 // The working state: for each peer its sets as words; `known` has the word of topic t of peer p at p * 32 + t.

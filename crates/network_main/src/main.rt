@@ -9,6 +9,8 @@
 //   25 known subscribers, 26 pending also seen.
 //
 // Read on: states (the sound states), reads, writes, tables (the cases), print (a line).
+#![tactic(auto)]
+
 mod print;
 mod reads;
 mod states;

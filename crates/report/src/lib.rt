@@ -7,6 +7,8 @@
 //
 // Read on: specs/Text.antt (decimals), specs/Report.antt (the lines); their laws in specs/laws/TextLaws.antt and proofs/ReportLaws.antt; 01's example in
 // specs/laws/Examples.antt; src/text.rt (writing bytes and numbers at a place of the buffer, specs/Write.antt).
+#![tactic(auto)]
+
 mod text;
 
 ghost use Rattle.std.specs.Prelude.{◌≡◌, ◌+◌, ◌≤◌, ◌<◌, length};

@@ -17,5 +17,5 @@ settled-requires c κs = search rules
 returns : tie.Need-returns
 returns c = image_net_made (start c.before.before.before).args.n c.before.underway.ensures c.settled.ensures
 
-pub image-spec : {M : Type 1} → statement M
-image-spec = tie.close (tie.spec underway-requires settled-requires returns)
+pub image_spec : {M : Type 1} → statement M
+image_spec = tie.close (tie.spec underway-requires settled-requires returns)

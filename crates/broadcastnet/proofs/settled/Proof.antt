@@ -20,22 +20,22 @@ decreases-loop w seen r₀ q₀ r q = 32 - q
 loop-holds : tie.Need-loop-init invariant-loop decreases-loop
 loop-holds c = (search rules, filled_none 32 _ _ (length-replicate {A = ℕ} 32 0))
 
-mul-minus64 : tie.Need-overflow-mul-minus64 invariant-loop decreases-loop
+mul-minus64 : tie.Need-overflow_mul-minus64 invariant-loop decreases-loop
 mul-minus64 c = search rules
 
-array-read-minus64 : tie.Need-array-read-minus64 invariant-loop decreases-loop
-array-read-minus64 c = search rules
+array_read-minus64 : tie.Need-array_read-minus64 invariant-loop decreases-loop
+array_read-minus64 c = search rules
 
 minus64-requires : tie.Need-minus64-requires invariant-loop decreases-loop
 minus64-requires c κs = search rules
 
-mul-r : tie.Need-overflow-mul-r invariant-loop decreases-loop
+mul-r : tie.Need-overflow_mul-r invariant-loop decreases-loop
 mul-r c = search rules
 
-array-write-r : tie.Need-array-write-r invariant-loop decreases-loop
-array-write-r c = search rules
+array_write-r : tie.Need-array_write-r invariant-loop decreases-loop
+array_write-r c = search rules
 
-add-q : tie.Need-overflow-add-q invariant-loop decreases-loop
+add-q : tie.Need-overflow_add-q invariant-loop decreases-loop
 add-q c = search rules
 
 loop-less : tie.Need-loop-smaller invariant-loop decreases-loop
@@ -47,18 +47,18 @@ loop-again c = (search rules, filled_more c.minus64.result c.before.before.loop.
 returns : tie.Need-returns invariant-loop decreases-loop
 returns c = let e : c.before.loop.q ≡ 32 = omega arith in without_filled _ _ (search rules) (rw e at c.before.loop.invariant.1)
 
-pub settled-spec : {M : Type 1} → statement M
-settled-spec =
+pub settled_spec : {M : Type 1} → statement M
+settled_spec =
     tie.close
     (tie.spec
     invariant-loop
     decreases-loop
     loop-holds
     mul-minus64
-    array-read-minus64
+    array_read-minus64
     minus64-requires
     mul-r
-    array-write-r
+    array_write-r
     add-q
     loop-less
     loop-again

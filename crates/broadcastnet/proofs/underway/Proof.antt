@@ -18,16 +18,16 @@ loop-holds : tie.Need-loop-init invariant-loop decreases-loop
 unfolding together
 loop-holds c = (search rules, refl)
 
-mul-union64 : tie.Need-overflow-mul-union64 invariant-loop decreases-loop
+mul-union64 : tie.Need-overflow_mul-union64 invariant-loop decreases-loop
 mul-union64 c = search rules
 
-array-read-union64 : tie.Need-array-read-union64 invariant-loop decreases-loop
-array-read-union64 c = search rules
+array_read-union64 : tie.Need-array_read-union64 invariant-loop decreases-loop
+array_read-union64 c = search rules
 
 union64-requires : tie.Need-union64-requires invariant-loop decreases-loop
 union64-requires c κs = search rules
 
-add-p : tie.Need-overflow-add-p invariant-loop decreases-loop
+add-p : tie.Need-overflow_add-p invariant-loop decreases-loop
 add-p c = search rules
 
 loop-less : tie.Need-loop-smaller invariant-loop decreases-loop
@@ -39,15 +39,15 @@ loop-again c = (search rules, together_more _ _ c.before.before.loop.invariant.1
 returns : tie.Need-returns invariant-loop decreases-loop
 returns c = let e : c.before.loop.p ≡ 32 = omega arith in rw e at c.before.loop.invariant.1
 
-pub underway-spec : {M : Type 1} → statement M
-underway-spec =
+pub underway_spec : {M : Type 1} → statement M
+underway_spec =
     tie.close
     (tie.spec
     invariant-loop
     decreases-loop
     loop-holds
     mul-union64
-    array-read-union64
+    array_read-union64
     union64-requires
     add-p
     loop-less

@@ -14,7 +14,7 @@ start c = c.before.before.before
 refused-requires : tie.Need-refused-requires
 refused-requires c κs = search rules
 
-same_length : tie.Need-same-length
+same_length : tie.Need-same_length
 same_length c = search rules
 
 returns : tie.Need-returns
@@ -26,38 +26,38 @@ least-requires c κs = search rules
 least-requires-2 : tie.Need-least-requires-2
 least-requires-2 c κs = search rules
 
-sub-run : tie.Need-overflow-sub-run
+sub-run : tie.Need-overflow_sub-run
 sub-run c = search rules
 
-part-run-start : tie.Need-slice-bounds-run-start
+part-run-start : tie.Need-slice_bounds-run-start
 part-run-start c = search rules
 
-part-run-end : tie.Need-slice-bounds-run-end
+part-run-end : tie.Need-slice_bounds-run-end
 part-run-end c = search rules
 
-sub-run-2 : tie.Need-overflow-sub-run-2
+sub-run-2 : tie.Need-overflow_sub-run-2
 sub-run-2 c = search rules
 
-part-run-start-2 : tie.Need-slice-bounds-run-start-2
+part-run-start-2 : tie.Need-slice_bounds-run-start-2
 part-run-start-2 c = search rules
 
-part-run-end-2 : tie.Need-slice-bounds-run-end-2
+part-run-end-2 : tie.Need-slice_bounds-run-end-2
 part-run-end-2 c = search rules
 
-sub-run-3 : tie.Need-overflow-sub-run-3
+sub-run-3 : tie.Need-overflow_sub-run-3
 sub-run-3 c = search rules
 
-part-run-start-3 : tie.Need-slice-bounds-run-start-3
+part-run-start-3 : tie.Need-slice_bounds-run-start-3
 part-run-start-3 c = search rules
 
-part-run-end-3 : tie.Need-slice-bounds-run-end-3
+part-run-end-3 : tie.Need-slice_bounds-run-end-3
 part-run-end-3 c = search rules
 
 run-requires : tie.Need-run-requires
 run-requires c κs = search rules
 
-same-length-2 : tie.Need-same-length-2
-same-length-2 c = search rules
+same_length-2 : tie.Need-same_length-2
+same_length-2 c = search rules
 
 returns-2 : tie.Need-returns-2
 returns-2 c =
@@ -71,8 +71,8 @@ returns-2 c =
     (table_part input middle.least.ensures last.least2.ensures)
     (events_part input last.least2.ensures))
 
-pub answer-spec : {M : Type 1} → statement M
-answer-spec =
+pub answer_spec : {M : Type 1} → statement M
+answer_spec =
     tie.close
     (tie.spec
     refused-requires
@@ -90,5 +90,5 @@ answer-spec =
     part-run-start-3
     part-run-end-3
     run-requires
-    same-length-2
+    same_length-2
     returns-2)

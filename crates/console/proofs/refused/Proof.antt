@@ -10,7 +10,7 @@ blank-requires c κs = search rules
 report-requires : tie.Need-report-requires
 report-requires c κs = search rules
 
-same_length : tie.Need-same-length
+same_length : tie.Need-same_length
 same_length c = search rules
 
 returns : tie.Need-returns
@@ -18,5 +18,5 @@ returns c =
     let r = c.before.before in
     printed_report r.report.ensures (refused_text_lem _ _ r.before.before.blank.ensures)
 
-pub refused-spec : {M : Type 1} → statement M
-refused-spec = tie.close (tie.spec blank-requires report-requires same_length returns)
+pub refused_spec : {M : Type 1} → statement M
+refused_spec = tie.close (tie.spec blank-requires report-requires same_length returns)

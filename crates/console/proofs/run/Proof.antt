@@ -18,7 +18,7 @@ begin-requires c κs = search rules
 refused-requires : tie.Need-refused-requires
 refused-requires c κs = search rules
 
-same_length : tie.Need-same-length
+same_length : tie.Need-same_length
 same_length c = search rules
 
 returns : tie.Need-returns
@@ -27,8 +27,8 @@ returns c =
     let test = r.before.before in
     printed_as r.refused.ensures (text_refused _ _ _ test.before.before.begin.ensures test.if1.true)
 
-run-events-requires : tie.Need-run-events-requires
-run-events-requires c κs =
+run_events-requires : tie.Need-run_events-requires
+run_events-requires c κs =
     let g = (begun c).before.before.begin in
     subst (λ (x : Begun). Rows x.table) (sym g.ensures) (begin_rows _ _ _)
 
@@ -38,8 +38,8 @@ shown-requires c κs = search rules
 report-requires : tie.Need-report-requires
 report-requires c κs = search rules
 
-same-length-2 : tie.Need-same-length-2
-same-length-2 c = search rules
+same_length-2 : tie.Need-same_length-2
+same_length-2 c = search rules
 
 returns-2 : tie.Need-returns-2
 returns-2 c =
@@ -48,7 +48,7 @@ returns-2 c =
     let e = s.before.before.before in
     let test = begun e.before in
     printed_report r.report.ensures
-    (text_run _ _ _ test.before.before.begin.ensures test.if1.left e.run-events.result e.run-events.ensures s.shown.ensures)
+    (text_run _ _ _ test.before.before.begin.ensures test.if1.left e.run_events.result e.run_events.ensures s.shown.ensures)
 
 pub run_spec : {M : Type 1} → statement M
 run_spec =
@@ -58,8 +58,8 @@ run_spec =
     refused-requires
     same_length
     returns
-    run-events-requires
+    run_events-requires
     shown-requires
     report-requires
-    same-length-2
+    same_length-2
     returns-2)

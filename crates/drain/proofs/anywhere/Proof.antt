@@ -19,16 +19,16 @@ decreases-loop pending all₀ p₀ all p = 32 - p
 loop-holds : tie.Need-loop-init invariant-loop decreases-loop
 loop-holds c = (omega arith, anywhere_none _)
 
-mul-union64 : tie.Need-overflow-mul-union64 invariant-loop decreases-loop
+mul-union64 : tie.Need-overflow_mul-union64 invariant-loop decreases-loop
 mul-union64 c = search rules
 
-element-copy-out-union64 : tie.Need-element-copy-out-union64 invariant-loop decreases-loop
-element-copy-out-union64 c = search rules
+element_copy_out-union64 : tie.Need-element_copy_out-union64 invariant-loop decreases-loop
+element_copy_out-union64 c = search rules
 
 union64-requires : tie.Need-union64-requires invariant-loop decreases-loop
 union64-requires c κs = search rules
 
-add-p : tie.Need-overflow-add-p invariant-loop decreases-loop
+add-p : tie.Need-overflow_add-p invariant-loop decreases-loop
 add-p c = search rules
 
 loop-less : tie.Need-loop-smaller invariant-loop decreases-loop
@@ -44,5 +44,5 @@ returns c =
     let e : c.before.loop.p ≡ 32 = omega arith in
     rw e at c.before.loop.invariant.1
 
-pub anywhere-spec : {M : Type 1} → statement M
-anywhere-spec = tie.close (tie.spec invariant-loop decreases-loop loop-holds mul-union64 element-copy-out-union64 union64-requires add-p loop-less loop-again returns)
+pub anywhere_spec : {M : Type 1} → statement M
+anywhere_spec = tie.close (tie.spec invariant-loop decreases-loop loop-holds mul-union64 element_copy_out-union64 union64-requires add-p loop-less loop-again returns)

@@ -27,29 +27,29 @@ loop-holds c = sorting_none _ _ (search rules)
 lowest64-requires : tie.Need-lowest64-requires invariant-loop decreases-loop
 lowest64-requires c κs = search rules
 
-cast_t : tie.Need-overflow-cast-t invariant-loop decreases-loop
+cast_t : tie.Need-overflow_cast-t invariant-loop decreases-loop
 cast_t c = search rules
 
-element-copy-out-t : tie.Need-element-copy-out-t invariant-loop decreases-loop
-element-copy-out-t c = search rules
+element_copy_out-t : tie.Need-element_copy_out-t invariant-loop decreases-loop
+element_copy_out-t c = search rules
 
-cast-t-2 : tie.Need-overflow-cast-t-2 invariant-loop decreases-loop
+cast-t-2 : tie.Need-overflow_cast-t-2 invariant-loop decreases-loop
 cast-t-2 c = omega (arith, small c.before)
 
-mul-with64 : tie.Need-overflow-mul-with64 invariant-loop decreases-loop
+mul-with64 : tie.Need-overflow_mul-with64 invariant-loop decreases-loop
 mul-with64 c = omega (arith, small c.before)
 
-array-read-with64 : tie.Need-array-read-with64 invariant-loop decreases-loop
-array-read-with64 c = omega (arith, small c.before)
+array_read-with64 : tie.Need-array_read-with64 invariant-loop decreases-loop
+array_read-with64 c = omega (arith, small c.before)
 
 with64-requires : tie.Need-with64-requires invariant-loop decreases-loop
 with64-requires c κs = search rules
 
-mul-r : tie.Need-overflow-mul-r invariant-loop decreases-loop
+mul-r : tie.Need-overflow_mul-r invariant-loop decreases-loop
 mul-r c = omega (arith, small c.before.before)
 
-array-write-r : tie.Need-array-write-r invariant-loop decreases-loop
-array-write-r c = omega (arith, small c.before.before)
+array_write-r : tie.Need-array_write-r invariant-loop decreases-loop
+array_write-r c = omega (arith, small c.before.before)
 
 rest64-requires : tie.Need-rest64-requires invariant-loop decreases-loop
 rest64-requires c κs = search rules
@@ -65,8 +65,8 @@ loop-again c =
 returns : tie.Need-returns invariant-loop decreases-loop
 returns c = sorting_done c.before.loop.invariant c.loop-test.false
 
-pub by-topic-spec : {M : Type 1} → statement M
-by-topic-spec =
+pub by_topic_spec : {M : Type 1} → statement M
+by_topic_spec =
     tie.close
     (tie.spec
     invariant-loop
@@ -74,13 +74,13 @@ by-topic-spec =
     loop-holds
     lowest64-requires
     cast_t
-    element-copy-out-t
+    element_copy_out-t
     cast-t-2
     mul-with64
-    array-read-with64
+    array_read-with64
     with64-requires
     mul-r
-    array-write-r
+    array_write-r
     rest64-requires
     loop-less
     loop-again

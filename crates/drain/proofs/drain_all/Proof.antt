@@ -23,11 +23,11 @@ abbrev decreases-loop : tie.decreases-loop
 decreases-loop pending₀ seen₀ known topics budget all words used made₀ rounds₀ pending seen made rounds = budget - made
 
 -- from the place where the messages are sorted: the start
-abbrev start : tie.After-by-topic invariant-loop decreases-loop → tie.Start invariant-loop decreases-loop
+abbrev start : tie.After-by_topic invariant-loop decreases-loop → tie.Start invariant-loop decreases-loop
 start c = c.before.before.before
 
 -- from the loop's head: where they were sorted
-abbrev sorted : tie.At-loop invariant-loop decreases-loop → tie.After-by-topic invariant-loop decreases-loop
+abbrev sorted : tie.At-loop invariant-loop decreases-loop → tie.After-by_topic invariant-loop decreases-loop
 sorted h = h.before.before
 
 -- from the place where the waiting pairs were counted: the loop's head
@@ -41,16 +41,16 @@ some c = c.before.before.before
 anywhere-requires : tie.Need-anywhere-requires invariant-loop decreases-loop
 anywhere-requires c κs = search rules
 
-by-topic-requires : tie.Need-by-topic-requires invariant-loop decreases-loop
-by-topic-requires c κs = c.before.before.requires
+by_topic-requires : tie.Need-by_topic-requires invariant-loop decreases-loop
+by_topic-requires c κs = c.before.before.requires
 
-topics-of-requires : tie.Need-topics-of-requires invariant-loop decreases-loop
-topics-of-requires c κs = (start c).requires
+topics_of-requires : tie.Need-topics_of-requires invariant-loop decreases-loop
+topics_of-requires c κs = (start c).requires
 
 loop-holds : tie.Need-loop-init invariant-loop decreases-loop
 loop-holds c =
     let s = c.before in
-    (lent_none _ _ _ _ _, each_filed _ _ _ (search rules) (start s).requires s.before.anywhere.ensures s.by-topic.ensures c.topics-of.ensures)
+    (lent_none _ _ _ _ _, each_filed _ _ _ (search rules) (start s).requires s.before.anywhere.ensures s.by_topic.ensures c.topics_of.ensures)
 
 waiting-requires : tie.Need-waiting-requires invariant-loop decreases-loop
 waiting-requires c κs = search rules
@@ -61,32 +61,32 @@ returns c =
     lent_done (head counted).loop.invariant.0 (inl (sym counted.waiting.ensures.0 ∙ c.if1.true)) _
     (sym (eq-eqb _ 0 c.if1.true) ∙ counted.waiting.ensures.1)
 
-sub-drain-round : tie.Need-overflow-sub-drain-round invariant-loop decreases-loop
-sub-drain-round c = search rules
+sub-drain_round : tie.Need-overflow_sub-drain_round invariant-loop decreases-loop
+sub-drain_round c = search rules
 
-drain-round-requires : tie.Need-drain-round-requires invariant-loop decreases-loop
-drain-round-requires c κs =
+drain_round-requires : tie.Need-drain_round-requires invariant-loop decreases-loop
+drain_round-requires c κs =
     let turn = head (some c).before in
     let s = sorted turn in
-    ((start s).pre, (own_topics (start s).args.topics.now s.by-topic.result (search rules) s.by-topic.ensures, turn.loop.inv.1))
+    ((start s).pre, (own_topics (start s).args.topics.now s.by_topic.result (search rules) s.by_topic.ensures, turn.loop.inv.1))
 
 -- one round: within the budget, and something was forwarded
-fits : (c : tie.After-drain-round invariant-loop decreases-loop)
+fits : (c : tie.After-drain_round invariant-loop decreases-loop)
     → (let turn = head (some c.before).before in turn.loop.made + c.drain_round.result ≤ (start (sorted turn)).args.budget)
 fits c =
     let counted = (some c.before).before in
     lent_fits (head counted).loop.inv.0 counted.waiting.ensures.0 (some c.before).if1.left c.drain_round.ensures.1 c.drain_round.ensures.0
 
-moves : (c : tie.After-drain-round invariant-loop decreases-loop) → 0 < c.drain_round.result
+moves : (c : tie.After-drain_round invariant-loop decreases-loop) → 0 < c.drain_round.result
 moves c =
     let counted = (some c.before).before in
     lent_moves (head counted).loop.inv.0 counted.waiting.ensures.0 (some c.before).if1.left c.drain_round.ensures.1 c.drain_round.ensures.0
     (search rules)
 
-add-made : tie.Need-overflow-add-made invariant-loop decreases-loop
+add-made : tie.Need-overflow_add-made invariant-loop decreases-loop
 add-made c = omega (arith, fits c)
 
-add_rounds : tie.Need-overflow-add-rounds invariant-loop decreases-loop
+add_rounds : tie.Need-overflow_add-rounds invariant-loop decreases-loop
 add_rounds c =
     let turn = head (some c.before.before).before in
     omega (arith, fits c.before, moves c.before, (turn.loop.inv.0.going bare []).fewer)
@@ -124,20 +124,20 @@ returns-2 : tie.Need-returns-2 invariant-loop decreases-loop
 returns-2 c =
     lent_done c.before.before.before.loop.invariant.0 (inr (omega arith)) _ c.waiting2.ensures.1
 
-pub drain-all-spec : {M : Type 1} → statement M
-drain-all-spec =
+pub drain_all_spec : {M : Type 1} → statement M
+drain_all_spec =
     tie.close
     (tie.spec
     invariant-loop
     decreases-loop
     anywhere-requires
-    by-topic-requires
-    topics-of-requires
+    by_topic-requires
+    topics_of-requires
     loop-holds
     waiting-requires
     returns
-    sub-drain-round
-    drain-round-requires
+    sub-drain_round
+    drain_round-requires
     add-made
     add_rounds
     loop-less

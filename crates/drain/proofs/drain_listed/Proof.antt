@@ -21,41 +21,41 @@ abbrev decreases-loop : tie.decreases-loop
 decreases-loop pending₀ seen₀ known topics words used listed left made₀ p₀ pending seen made p = 32 - p
 
 -- from the place where a peer has its turn: the loop's head
-abbrev head : tie.After-drain-peer-arg2 invariant-loop decreases-loop → tie.At-loop invariant-loop decreases-loop
+abbrev head : tie.After-drain_peer-arg2 invariant-loop decreases-loop → tie.At-loop invariant-loop decreases-loop
 head c = c.before.before.before.before
 
 loop-holds : tie.Need-loop-init invariant-loop decreases-loop
 loop-holds c = (omega arith, λ n os. peers_none _ _ _ _)
 
-cast-i : tie.Need-overflow-cast-i invariant-loop decreases-loop
+cast-i : tie.Need-overflow_cast-i invariant-loop decreases-loop
 cast-i c = search rules
 
-mul-todo : tie.Need-overflow-mul-todo invariant-loop decreases-loop
+mul-todo : tie.Need-overflow_mul-todo invariant-loop decreases-loop
 mul-todo c = search rules
 
-element-copy-out-todo : tie.Need-element-copy-out-todo invariant-loop decreases-loop
-element-copy-out-todo c = search rules
+element_copy_out-todo : tie.Need-element_copy_out-todo invariant-loop decreases-loop
+element_copy_out-todo c = search rules
 
-sub-drain-peer : tie.Need-overflow-sub-drain-peer invariant-loop decreases-loop
-sub-drain-peer c =
+sub-drain_peer : tie.Need-overflow_sub-drain_peer invariant-loop decreases-loop
+sub-drain_peer c =
     let v = (head c).loop.invariant.1 bare [] in
     search rules
 
-drain-peer-requires : tie.Need-drain-peer-requires invariant-loop decreases-loop
-drain-peer-requires c κs =
+drain_peer-requires : tie.Need-drain_peer-requires invariant-loop decreases-loop
+drain_peer-requires c κs =
     let given = (head c).before.requires in
     (search rules, (given.0, (given.1.0, given.1.1 _ (search rules))))
 
-add-made : tie.Need-overflow-add-made invariant-loop decreases-loop
+add-made : tie.Need-overflow_add-made invariant-loop decreases-loop
 add-made c =
     let turn = head c.before in
     omega (
       arith,
-      (peers_more _ _ _ _ _ (turn.loop.inv.1 bare []) refl (c.drain-peer.ensures.1 bare [])
-          c.drain-peer.ensures.0).within,
+      (peers_more _ _ _ _ _ (turn.loop.inv.1 bare []) refl (c.drain_peer.ensures.1 bare [])
+          c.drain_peer.ensures.0).within,
     )
 
-add-p : tie.Need-overflow-add-p invariant-loop decreases-loop
+add-p : tie.Need-overflow_add-p invariant-loop decreases-loop
 add-p c = search rules
 
 loop-less : tie.Need-loop-smaller invariant-loop decreases-loop
@@ -64,7 +64,7 @@ loop-less c = search rules
 loop-again : tie.Need-loop-preserved invariant-loop decreases-loop
 loop-again c =
     let turn = head c.before in
-    (omega arith, λ n os. peers_more _ _ _ _ _ (turn.loop.inv.1 n os) refl (c.drain-peer.ensures.1 n os) c.drain-peer.ensures.0)
+    (omega arith, λ n os. peers_more _ _ _ _ _ (turn.loop.inv.1 n os) refl (c.drain_peer.ensures.1 n os) c.drain_peer.ensures.0)
 
 returns : tie.Need-returns invariant-loop decreases-loop
 returns c =
@@ -72,8 +72,8 @@ returns c =
     let v = rw e at c.before.loop.invariant.1 in
     ((v bare []).count, λ n os. (v n os).state)
 
-pub drain-listed-spec : {M : Type 1} → statement M
-drain-listed-spec =
+pub drain_listed_spec : {M : Type 1} → statement M
+drain_listed_spec =
     tie.close
     (tie.spec
     invariant-loop
@@ -81,9 +81,9 @@ drain-listed-spec =
     loop-holds
     cast-i
     mul-todo
-    element-copy-out-todo
-    sub-drain-peer
-    drain-peer-requires
+    element_copy_out-todo
+    sub-drain_peer
+    drain_peer-requires
     add-made
     add-p
     loop-less

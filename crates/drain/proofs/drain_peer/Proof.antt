@@ -23,13 +23,13 @@ abbrev decreases-loop : tie.decreases-loop
 decreases-loop pending₀ seen₀ known topics words used p todo left all made₀ rest₀ pending seen made rest = left - made
 
 -- from the place where all were counted: the start; where they are forwarded at once; and where the loop begins
-abbrev start : tie.After-how-many invariant-loop decreases-loop → tie.Start invariant-loop decreases-loop
+abbrev start : tie.After-how_many invariant-loop decreases-loop → tie.Start invariant-loop decreases-loop
 start c = c.before.before
 
-abbrev at_once : tie.After-forward-set-arg2 invariant-loop decreases-loop → tie.Then2 invariant-loop decreases-loop
+abbrev at_once : tie.After-forward_set-arg2 invariant-loop decreases-loop → tie.Then2 invariant-loop decreases-loop
 at_once c = c.before.before
 
-abbrev counted : tie.At-loop invariant-loop decreases-loop → tie.After-how-many invariant-loop decreases-loop
+abbrev counted : tie.At-loop invariant-loop decreases-loop → tie.After-how_many invariant-loop decreases-loop
 counted h = h.before.before
 
 -- from the place where the least message was taken: the loop's head; and to there from its forward
@@ -46,18 +46,18 @@ returns c =
       λ n os. (walk_done _ _ a.p.0 _ a.left (walk_none _ _ _ _ _ (search rules)) (inl c.if1.true)).1,
     )
 
-how-many-requires : tie.Need-how-many-requires invariant-loop decreases-loop
-how-many-requires c κs = search rules
+how_many-requires : tie.Need-how_many-requires invariant-loop decreases-loop
+how_many-requires c κs = search rules
 
-forward-set-requires : tie.Need-forward-set-requires invariant-loop decreases-loop
-forward-set-requires c κs =
+forward_set-requires : tie.Need-forward_set-requires invariant-loop decreases-loop
+forward_set-requires c κs =
     let given = (start (at_once c).before).pre in
     (given.0, given.1.1)
 
 returns-2 : tie.Need-returns-2 invariant-loop decreases-loop
 returns-2 c =
     let asked = at_once c.before in
-    all_at_once (search rules) asked.before.how-many.ensures.0 asked.if2.taken c.forward-set.ensures
+    all_at_once (search rules) asked.before.how_many.ensures.0 asked.if2.taken c.forward_set.ensures
 
 loop-holds : tie.Need-loop-init invariant-loop decreases-loop
 loop-holds c = λ n os. walk_none _ _ _ _ _ (search rules)
@@ -69,7 +69,7 @@ returns-3 c =
 lowest64-requires : tie.Need-lowest64-requires invariant-loop decreases-loop
 lowest64-requires c κs = search rules
 
-cast-t23 : tie.Need-overflow-cast-t23 invariant-loop decreases-loop
+cast-t23 : tie.Need-overflow_cast-t23 invariant-loop decreases-loop
 cast-t23 c = search rules
 
 forward-requires : tie.Need-forward-requires invariant-loop decreases-loop
@@ -78,7 +78,7 @@ forward-requires c κs = (search rules, search rules, (start (counted (head (lea
 rest64-requires : tie.Need-rest64-requires invariant-loop decreases-loop
 rest64-requires c κs = search rules
 
-add-made : tie.Need-overflow-add-made invariant-loop decreases-loop
+add-made : tie.Need-overflow_add-made invariant-loop decreases-loop
 add-made c = search rules
 
 loop-less : tie.Need-loop-smaller invariant-loop decreases-loop
@@ -97,15 +97,15 @@ returns-4 c =
     let e : c.before.loop.made ≡ (start (counted c.before)).args.left = omega arith in
     ((walk_done _ _ _ _ _ v (inr e)).0, λ n os. (walk_done _ _ _ _ _ (c.before.loop.invariant n os) (inr e)).1)
 
-pub drain-peer-spec : {M : Type 1} → statement M
-drain-peer-spec =
+pub drain_peer_spec : {M : Type 1} → statement M
+drain_peer_spec =
     tie.close
     (tie.spec
     invariant-loop
     decreases-loop
     returns
-    how-many-requires
-    forward-set-requires
+    how_many-requires
+    forward_set-requires
     returns-2
     loop-holds
     returns-3

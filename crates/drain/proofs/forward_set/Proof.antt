@@ -25,38 +25,38 @@ least c = c.before.before
 abbrev head : tie.After-lowest32 invariant-loop decreases-loop → tie.At-loop invariant-loop decreases-loop
 head c = c.before.before
 
-cast-i : tie.Need-overflow-cast-i invariant-loop decreases-loop
+cast-i : tie.Need-overflow_cast-i invariant-loop decreases-loop
 cast-i c = search rules
 
-mul-minus64 : tie.Need-overflow-mul-minus64 invariant-loop decreases-loop
+mul-minus64 : tie.Need-overflow_mul-minus64 invariant-loop decreases-loop
 mul-minus64 c = search rules
 
-element-copy-out-minus64 : tie.Need-element-copy-out-minus64 invariant-loop decreases-loop
-element-copy-out-minus64 c = search rules
+element_copy_out-minus64 : tie.Need-element_copy_out-minus64 invariant-loop decreases-loop
+element_copy_out-minus64 c = search rules
 
 minus64-requires : tie.Need-minus64-requires invariant-loop decreases-loop
 minus64-requires c κs = search rules
 
-mul-pending : tie.Need-overflow-mul-pending invariant-loop decreases-loop
+mul-pending : tie.Need-overflow_mul-pending invariant-loop decreases-loop
 mul-pending c = search rules
 
-element-write-pending : tie.Need-element-write-pending invariant-loop decreases-loop
-element-write-pending c = search rules
+element_write-pending : tie.Need-element_write-pending invariant-loop decreases-loop
+element_write-pending c = search rules
 
-mul-union64 : tie.Need-overflow-mul-union64 invariant-loop decreases-loop
+mul-union64 : tie.Need-overflow_mul-union64 invariant-loop decreases-loop
 mul-union64 c = search rules
 
-element-copy-out-union64 : tie.Need-element-copy-out-union64 invariant-loop decreases-loop
-element-copy-out-union64 c = search rules
+element_copy_out-union64 : tie.Need-element_copy_out-union64 invariant-loop decreases-loop
+element_copy_out-union64 c = search rules
 
 union64-requires : tie.Need-union64-requires invariant-loop decreases-loop
 union64-requires c κs = search rules
 
-mul-seen : tie.Need-overflow-mul-seen invariant-loop decreases-loop
+mul-seen : tie.Need-overflow_mul-seen invariant-loop decreases-loop
 mul-seen c = search rules
 
-element-write-seen : tie.Need-element-write-seen invariant-loop decreases-loop
-element-write-seen c = search rules
+element_write-seen : tie.Need-element_write-seen invariant-loop decreases-loop
+element_write-seen c = search rules
 
 loop-holds : tie.Need-loop-init invariant-loop decreases-loop
 loop-holds c = spreading_none (search rules) (start c).requires.1.1 (search rules) _
@@ -64,32 +64,32 @@ loop-holds c = spreading_none (search rules) (start c).requires.1.1 (search rule
 lowest32-requires : tie.Need-lowest32-requires invariant-loop decreases-loop
 lowest32-requires c κs = search rules
 
-cast_t : tie.Need-overflow-cast-t invariant-loop decreases-loop
+cast_t : tie.Need-overflow_cast-t invariant-loop decreases-loop
 cast_t c = search rules
 
-mul-meet64 : tie.Need-overflow-mul-meet64 invariant-loop decreases-loop
+mul-meet64 : tie.Need-overflow_mul-meet64 invariant-loop decreases-loop
 mul-meet64 c = search rules
 
-element-copy-out-meet64 : tie.Need-element-copy-out-meet64 invariant-loop decreases-loop
-element-copy-out-meet64 c = search rules
+element_copy_out-meet64 : tie.Need-element_copy_out-meet64 invariant-loop decreases-loop
+element_copy_out-meet64 c = search rules
 
 meet64-requires : tie.Need-meet64-requires invariant-loop decreases-loop
 meet64-requires c κs = search rules
 
-mul-give-set : tie.Need-overflow-mul-give-set invariant-loop decreases-loop
-mul-give-set c = search rules
+mul-give_set : tie.Need-overflow_mul-give_set invariant-loop decreases-loop
+mul-give_set c = search rules
 
-add-give-set : tie.Need-overflow-add-give-set invariant-loop decreases-loop
-add-give-set c = search rules
+add-give_set : tie.Need-overflow_add-give_set invariant-loop decreases-loop
+add-give_set c = search rules
 
-mul-give-set-2 : tie.Need-overflow-mul-give-set-2 invariant-loop decreases-loop
-mul-give-set-2 c = search rules
+mul-give_set-2 : tie.Need-overflow_mul-give_set-2 invariant-loop decreases-loop
+mul-give_set-2 c = search rules
 
-element-copy-out-give-set : tie.Need-element-copy-out-give-set invariant-loop decreases-loop
-element-copy-out-give-set c = search rules
+element_copy_out-give_set : tie.Need-element_copy_out-give_set invariant-loop decreases-loop
+element_copy_out-give_set c = search rules
 
-give-set-requires : tie.Need-give-set-requires invariant-loop decreases-loop
-give-set-requires c κs = search rules
+give_set-requires : tie.Need-give_set-requires invariant-loop decreases-loop
+give_set-requires c κs = search rules
 
 rest32-requires : tie.Need-rest32-requires invariant-loop decreases-loop
 rest32-requires c κs = search rules
@@ -114,34 +114,34 @@ returns c =
     let a = (start moved).args in
     spreading_done a.pending.now a.seen.now a.p.0 (search rules) (less moved).minus64.ensures moved.union64.ensures c.before.loop.invariant c.loop-test.false
 
-pub forward-set-spec : {M : Type 1} → statement M
-forward-set-spec =
+pub forward_set_spec : {M : Type 1} → statement M
+forward_set_spec =
     tie.close
     (tie.spec
     invariant-loop
     decreases-loop
     cast-i
     mul-minus64
-    element-copy-out-minus64
+    element_copy_out-minus64
     minus64-requires
     mul-pending
-    element-write-pending
+    element_write-pending
     mul-union64
-    element-copy-out-union64
+    element_copy_out-union64
     union64-requires
     mul-seen
-    element-write-seen
+    element_write-seen
     loop-holds
     lowest32-requires
     cast_t
     mul-meet64
-    element-copy-out-meet64
+    element_copy_out-meet64
     meet64-requires
-    mul-give-set
-    add-give-set
-    mul-give-set-2
-    element-copy-out-give-set
-    give-set-requires
+    mul-give_set
+    add-give_set
+    mul-give_set-2
+    element_copy_out-give_set
+    give_set-requires
     rest32-requires
     loop-less
     loop-again

@@ -31,20 +31,20 @@ loop-holds c = visiting_none 32 _ _ _ (search rules)
 lowest64-requires : tie.Need-lowest64-requires invariant-loop decreases-loop
 lowest64-requires c κs = search rules
 
-cast-q : tie.Need-overflow-cast-q invariant-loop decreases-loop
+cast-q : tie.Need-overflow_cast-q invariant-loop decreases-loop
 cast-q c = search rules
 
-mul-union64 : tie.Need-overflow-mul-union64 invariant-loop decreases-loop
+mul-union64 : tie.Need-overflow_mul-union64 invariant-loop decreases-loop
 mul-union64 c = search rules
 
-element-copy-out-union64 : tie.Need-element-copy-out-union64 invariant-loop decreases-loop
-element-copy-out-union64 c = small c
+element_copy_out-union64 : tie.Need-element_copy_out-union64 invariant-loop decreases-loop
+element_copy_out-union64 c = small c
 
-mul-minus64 : tie.Need-overflow-mul-minus64 invariant-loop decreases-loop
+mul-minus64 : tie.Need-overflow_mul-minus64 invariant-loop decreases-loop
 mul-minus64 c = search rules
 
-element-copy-out-minus64 : tie.Need-element-copy-out-minus64 invariant-loop decreases-loop
-element-copy-out-minus64 c = small c.before
+element_copy_out-minus64 : tie.Need-element_copy_out-minus64 invariant-loop decreases-loop
+element_copy_out-minus64 c = small c.before
 
 minus64-requires : tie.Need-minus64-requires invariant-loop decreases-loop
 minus64-requires c κs = search rules
@@ -52,11 +52,11 @@ minus64-requires c κs = search rules
 union64-requires : tie.Need-union64-requires invariant-loop decreases-loop
 union64-requires c κs = search rules
 
-mul-pending : tie.Need-overflow-mul-pending invariant-loop decreases-loop
+mul-pending : tie.Need-overflow_mul-pending invariant-loop decreases-loop
 mul-pending c = search rules
 
-element-write-pending : tie.Need-element-write-pending invariant-loop decreases-loop
-element-write-pending c = small (least c)
+element_write-pending : tie.Need-element_write-pending invariant-loop decreases-loop
+element_write-pending c = small (least c)
 
 rest64-requires : tie.Need-rest64-requires invariant-loop decreases-loop
 rest64-requires c κs = search rules
@@ -75,8 +75,8 @@ returns : tie.Need-returns invariant-loop decreases-loop
 unfolding gives
 returns c = (visiting_done c.before.loop.invariant c.loop-test.false ∙ visits_edit _ 32 _ _ (search rules), search rules)
 
-pub give-set-spec : {M : Type 1} → statement M
-give-set-spec =
+pub give_set_spec : {M : Type 1} → statement M
+give_set_spec =
     tie.close
     (tie.spec
     invariant-loop
@@ -85,13 +85,13 @@ give-set-spec =
     lowest64-requires
     cast-q
     mul-union64
-    element-copy-out-union64
+    element_copy_out-union64
     mul-minus64
-    element-copy-out-minus64
+    element_copy_out-minus64
     minus64-requires
     union64-requires
     mul-pending
-    element-write-pending
+    element_write-pending
     rest64-requires
     loop-less
     loop-again

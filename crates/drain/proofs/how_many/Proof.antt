@@ -18,5 +18,5 @@ size64-requires c κs = search rules
 returns-2 : tie.Need-returns-2
 returns-2 c = (c.size64.ensures.0 ∙ size_count 64 _ (search rules), c.size64.ensures.1, search rules)
 
-pub how-many-spec : {M : Type 1} → statement M
-how-many-spec = tie.close (tie.spec returns size64-requires returns-2)
+pub how_many_spec : {M : Type 1} → statement M
+how_many_spec = tie.close (tie.spec returns size64-requires returns-2)

@@ -27,13 +27,13 @@ loop-holds c = using_none _ _ (search rules)
 lowest64-requires : tie.Need-lowest64-requires invariant-loop decreases-loop
 lowest64-requires c κs = search rules
 
-cast-m : tie.Need-overflow-cast-m invariant-loop decreases-loop
+cast-m : tie.Need-overflow_cast-m invariant-loop decreases-loop
 cast-m c = search rules
 
-element-copy-out-with32 : tie.Need-element-copy-out-with32 invariant-loop decreases-loop
-element-copy-out-with32 c = search rules
+element_copy_out-with32 : tie.Need-element_copy_out-with32 invariant-loop decreases-loop
+element_copy_out-with32 c = search rules
 
-cast-with32 : tie.Need-overflow-cast-with32 invariant-loop decreases-loop
+cast-with32 : tie.Need-overflow_cast-with32 invariant-loop decreases-loop
 cast-with32 c = omega (arith, small c.before)
 
 with32-requires : tie.Need-with32-requires invariant-loop decreases-loop
@@ -53,8 +53,8 @@ loop-again c =
 returns : tie.Need-returns invariant-loop decreases-loop
 returns c = using_done c.before.loop.invariant c.loop-test.false
 
-pub topics-of-spec : {M : Type 1} → statement M
-topics-of-spec =
+pub topics_of_spec : {M : Type 1} → statement M
+topics_of_spec =
     tie.close
     (tie.spec
     invariant-loop
@@ -62,7 +62,7 @@ topics-of-spec =
     loop-holds
     lowest64-requires
     cast-m
-    element-copy-out-with32
+    element_copy_out-with32
     cast-with32
     with32-requires
     rest64-requires

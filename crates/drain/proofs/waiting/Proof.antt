@@ -24,19 +24,19 @@ decreases-loop pending total₀ p₀ total p = 32 - p
 loop-holds : tie.Need-loop-init invariant-loop decreases-loop
 loop-holds c = (omega arith, sum_start _, omega arith, all_start _)
 
-mul-how-many : tie.Need-overflow-mul-how-many invariant-loop decreases-loop
-mul-how-many c = search rules
+mul-how_many : tie.Need-overflow_mul-how_many invariant-loop decreases-loop
+mul-how_many c = search rules
 
-element-copy-out-how-many : tie.Need-element-copy-out-how-many invariant-loop decreases-loop
-element-copy-out-how-many c = search rules
+element_copy_out-how_many : tie.Need-element_copy_out-how_many invariant-loop decreases-loop
+element_copy_out-how_many c = search rules
 
-how-many-requires : tie.Need-how-many-requires invariant-loop decreases-loop
-how-many-requires c κs = search rules
+how_many-requires : tie.Need-how_many-requires invariant-loop decreases-loop
+how_many-requires c κs = search rules
 
-add_total : tie.Need-overflow-add-total invariant-loop decreases-loop
+add_total : tie.Need-overflow_add-total invariant-loop decreases-loop
 add_total c = omega arith
 
-add-p : tie.Need-overflow-add-p invariant-loop decreases-loop
+add-p : tie.Need-overflow_add-p invariant-loop decreases-loop
 add-p c = omega arith
 
 loop-less : tie.Need-loop-smaller invariant-loop decreases-loop
@@ -47,9 +47,9 @@ loop-again c =
     let turn = c.before.before.before in
     let w = get_or turn.before.args.pending.now turn.loop.p 0 in (
       omega arith,
-      ap₂ ◌+◌ turn.loop.invariant.1 c.how-many.ensures.0 ∙ sym (sum_more _ _),
+      ap₂ ◌+◌ turn.loop.invariant.1 c.how_many.ensures.0 ∙ sym (sum_more _ _),
       omega arith,
-      empty_more turn.loop.total w c.how-many.ensures.2 c.how-many.ensures.0 turn.loop.invariant.3 ∙ sym (all_more _ _),
+      empty_more turn.loop.total w c.how_many.ensures.2 c.how_many.ensures.0 turn.loop.invariant.3 ∙ sym (all_more _ _),
     )
 
 returns : tie.Need-returns invariant-loop decreases-loop
@@ -58,16 +58,16 @@ returns c =
     let e : c.before.loop.p ≡ 32 = omega arith in
     (rw e at c.before.loop.invariant.1, rw e at c.before.loop.invariant.3)
 
-pub waiting-spec : {M : Type 1} → statement M
-waiting-spec =
+pub waiting_spec : {M : Type 1} → statement M
+waiting_spec =
     tie.close
     (tie.spec
     invariant-loop
     decreases-loop
     loop-holds
-    mul-how-many
-    element-copy-out-how-many
-    how-many-requires
+    mul-how_many
+    element_copy_out-how_many
+    how_many-requires
     add_total
     add-p
     loop-less

@@ -11,7 +11,7 @@ le4-requires c κs = search rules
 wide8-requires : tie.Need-wide8-requires
 wide8-requires c κs = search rules
 
-add-le4 : tie.Need-overflow-add-le4
+add-le4 : tie.Need-overflow_add-le4
 add-le4 c = search rules
 
 le4-requires-2 : tie.Need-le4-requires-2
@@ -20,17 +20,17 @@ le4-requires-2 c κs = search rules
 wide8-requires-2 : tie.Need-wide8-requires-2
 wide8-requires-2 c κs = search rules
 
-mul-result : tie.Need-overflow-mul-result
+mul-result : tie.Need-overflow_mul-result
 mul-result c = search rules
 
-add-result : tie.Need-overflow-add-result
+add-result : tie.Need-overflow_add-result
 add-result c = search rules
 
 returns : tie.Need-returns
 returns c = rw le_8 (omega arith)
 
-pub le8-spec : {M : Type 1} → statement M
-le8-spec =
+pub le8_spec : {M : Type 1} → statement M
+le8_spec =
     tie.close
     (tie.spec
     le4-requires

@@ -7,59 +7,59 @@ use Rattle.endian.specs.laws.Le.{put_le_4}
 use Rattle.endian.proofs.put4.Statement.{statement}
 use Rattle.endian.proofs.put4.Tie as tie
 
-cast-b : tie.Need-overflow-cast-b
+cast-b : tie.Need-overflow_cast-b
 cast-b c = search rules
 
-slice-write-b : tie.Need-slice-write-b
-slice-write-b c = search rules
+slice_write-b : tie.Need-slice_write-b
+slice_write-b c = search rules
 
-cast-b-2 : tie.Need-overflow-cast-b-2
+cast-b-2 : tie.Need-overflow_cast-b-2
 cast-b-2 c = search rules
 
-add-b : tie.Need-overflow-add-b
+add-b : tie.Need-overflow_add-b
 add-b c = search rules
 
-slice-write-b-2 : tie.Need-slice-write-b-2
-slice-write-b-2 c = simp length-set (omega arith)
+slice_write-b-2 : tie.Need-slice_write-b-2
+slice_write-b-2 c = simp length-set (omega arith)
 
-cast-b-3 : tie.Need-overflow-cast-b-3
+cast-b-3 : tie.Need-overflow_cast-b-3
 cast-b-3 c = search rules
 
-add-b-2 : tie.Need-overflow-add-b-2
+add-b-2 : tie.Need-overflow_add-b-2
 add-b-2 c = search rules
 
-slice-write-b-3 : tie.Need-slice-write-b-3
-slice-write-b-3 c = simp length-set (omega arith)
+slice_write-b-3 : tie.Need-slice_write-b-3
+slice_write-b-3 c = simp length-set (omega arith)
 
-cast-b-4 : tie.Need-overflow-cast-b-4
+cast-b-4 : tie.Need-overflow_cast-b-4
 cast-b-4 c = search rules
 
-add-b-3 : tie.Need-overflow-add-b-3
+add-b-3 : tie.Need-overflow_add-b-3
 add-b-3 c = search rules
 
-slice-write-b-4 : tie.Need-slice-write-b-4
-slice-write-b-4 c = simp length-set (omega arith)
+slice_write-b-4 : tie.Need-slice_write-b-4
+slice_write-b-4 c = simp length-set (omega arith)
 
-same_length : tie.Need-same-length
+same_length : tie.Need-same_length
 same_length c = search rules
 
 returns : tie.Need-returns
 returns c = sym (put_le_4 _ _ _)
 
-pub put4-spec : {M : Type 1} → statement M
-put4-spec =
+pub put4_spec : {M : Type 1} → statement M
+put4_spec =
     tie.close
     (tie.spec
     cast-b
-    slice-write-b
+    slice_write-b
     cast-b-2
     add-b
-    slice-write-b-2
+    slice_write-b-2
     cast-b-3
     add-b-2
-    slice-write-b-3
+    slice_write-b-3
     cast-b-4
     add-b-3
-    slice-write-b-4
+    slice_write-b-4
     same_length
     returns)

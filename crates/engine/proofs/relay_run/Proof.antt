@@ -201,10 +201,10 @@ relay_run_meets {𝓤 = 𝓤} 𝓛 at_mem run 𝓣 known =
     walk_Meets 𝓛 f.ended stayed (Goes-gave_slice 𝓛 4 0 tt (plain (λ _. u8)), (Goes-none_slice 𝓛 4 (1 ∷ []) tt (plain (λ _. u8)) yes, (Goes-none_slice 𝓛 4 (2 ∷ []) tt (plain (λ _. u8)) yes, (Goes-ref 𝓛 4 3 tt (plain (λ _. T.the_row)), tt))))
     (f.clauses 𝓛 at_mem run) (WpFn 𝓤 𝓛.h_then 𝓣.C 𝓣.Λ code.function) (WpFn-mono 𝓤 𝓛.h_then 𝓛.laws 𝓣 code.function) (relay_run_walks 𝓛 at_mem run 𝓣.C 𝓣.Λ (fm_of 𝓤 𝓛.h_then 𝓛.laws 𝓣) known)
 
-pub relay-run-spec : {M : Type 1} → stated.statement M
+pub relay_run_spec : {M : Type 1} → stated.statement M
 unfolding code.routine tables_of
-relay-run-spec 𝓤 𝓛 𝓜 𝓡 =
+relay_run_spec 𝓤 𝓛 𝓜 𝓡 =
     entered 𝓤 𝓛.h_then (triple_of 𝓛 f.signature (f.spec 𝓛 𝓜.mem 𝓡.run))
     (tables 𝓤 𝓛.h_then 𝓜 𝓡 code.env).C (tables 𝓤 𝓛.h_then 𝓜 𝓡 code.env).Λ #engine·relay-run code.function (code.unfolded 𝓤 𝓛.h_then 𝓜 𝓡)
     (relay_run_meets 𝓛 𝓜.mem 𝓡.run (tables_of 𝓤 𝓛.h_then 𝓜 (tables 𝓤 𝓛.h_then 𝓜 𝓡 code.env))
-    (cited 𝓤 𝓛.h_then (RunCore 𝓛 𝓜.mem 𝓡.run) 𝓜 𝓡 code.env #engine·run-core g-def.routine code.calls-engine::running::run-core (g-thm.met 𝓤 𝓛 𝓜 𝓡)))
+    (cited 𝓤 𝓛.h_then (RunCore 𝓛 𝓜.mem 𝓡.run) 𝓜 𝓡 code.env #engine·run-core g-def.routine code.calls-engine::running::run_core (g-thm.met 𝓤 𝓛 𝓜 𝓡)))

@@ -10,5 +10,5 @@ returns-2 : tie.Need-returns-2
 unfolding reading_of or_seven
 returns-2 c = simp c.if1.false
 
-pub or-seven-spec : {M : Type 1} → statement M
-or-seven-spec = tie.close (tie.spec returns returns-2)
+pub or_seven_spec : {M : Type 1} → statement M
+or_seven_spec = tie.close (tie.spec returns returns-2)

@@ -5,44 +5,44 @@ use borrow.Author.Rules.{rules}
 use Rattle.events.proofs.put_head.Statement.{statement}
 use Rattle.events.proofs.put_head.Tie as tie
 
-slice-write-bytes : tie.Need-slice-write-bytes
-slice-write-bytes c = search rules
+slice_write-bytes : tie.Need-slice_write-bytes
+slice_write-bytes c = search rules
 
-add-bytes : tie.Need-overflow-add-bytes
+add-bytes : tie.Need-overflow_add-bytes
 add-bytes c = search rules
 
-slice-write-bytes-2 : tie.Need-slice-write-bytes-2
-slice-write-bytes-2 c = simp length-set (omega arith)
+slice_write-bytes-2 : tie.Need-slice_write-bytes-2
+slice_write-bytes-2 c = simp length-set (omega arith)
 
-add-bytes-2 : tie.Need-overflow-add-bytes-2
+add-bytes-2 : tie.Need-overflow_add-bytes-2
 add-bytes-2 c = search rules
 
-slice-write-bytes-3 : tie.Need-slice-write-bytes-3
-slice-write-bytes-3 c = simp length-set (omega arith)
+slice_write-bytes-3 : tie.Need-slice_write-bytes-3
+slice_write-bytes-3 c = simp length-set (omega arith)
 
-add-bytes-3 : tie.Need-overflow-add-bytes-3
+add-bytes-3 : tie.Need-overflow_add-bytes-3
 add-bytes-3 c = search rules
 
-slice-write-bytes-4 : tie.Need-slice-write-bytes-4
-slice-write-bytes-4 c = simp length-set (omega arith)
+slice_write-bytes-4 : tie.Need-slice_write-bytes-4
+slice_write-bytes-4 c = simp length-set (omega arith)
 
-same_length : tie.Need-same-length
+same_length : tie.Need-same_length
 same_length c = search rules
 
 returns : tie.Need-returns
 unfolding put_head
 returns c = search rules
 
-pub put-head-spec : {M : Type 1} → statement M
-put-head-spec =
+pub put_head_spec : {M : Type 1} → statement M
+put_head_spec =
     tie.close
     (tie.spec
-    slice-write-bytes
+    slice_write-bytes
     add-bytes
-    slice-write-bytes-2
+    slice_write-bytes-2
     add-bytes-2
-    slice-write-bytes-3
+    slice_write-bytes-3
     add-bytes-3
-    slice-write-bytes-4
+    slice_write-bytes-4
     same_length
     returns)

@@ -6,32 +6,32 @@ use lib.Seq.{length-take-le}
 use Rattle.flood.proofs.main.Statement.{statement}
 use Rattle.flood.proofs.main.Tie as tie
 
-slice-aggregate-read-full : tie.Need-slice-aggregate-read-full
-slice-aggregate-read-full c = search rules
+slice_aggregate-read_full : tie.Need-slice_aggregate-read_full
+slice_aggregate-read_full c = search rules
 
-read-full-requires : tie.Need-read-full-requires
-read-full-requires c κs = search rules
+read_full-requires : tie.Need-read_full-requires
+read_full-requires c κs = search rules
 
-array-share-prefix-input : tie.Need-array-share-prefix-input
-array-share-prefix-input c = search rules
+array_share_prefix-input : tie.Need-array_share_prefix-input
+array_share_prefix-input c = search rules
 
-slice-aggregate-answer : tie.Need-slice-aggregate-answer
-slice-aggregate-answer c = search rules
+slice_aggregate-answer : tie.Need-slice_aggregate-answer
+slice_aggregate-answer c = search rules
 
-slice-aggregate-answer-2 : tie.Need-slice-aggregate-answer-2
-slice-aggregate-answer-2 c = search rules
+slice_aggregate-answer-2 : tie.Need-slice_aggregate-answer-2
+slice_aggregate-answer-2 c = search rules
 
 answer-requires : tie.Need-answer-requires
 answer-requires c κs = search rules
 
-array-share-prefix-out : tie.Need-array-share-prefix-out
-array-share-prefix-out c = search rules
+array_share_prefix-out : tie.Need-array_share_prefix-out
+array_share_prefix-out c = search rules
 
-slice-aggregate-write-all : tie.Need-slice-aggregate-write-all
-slice-aggregate-write-all c = let a = c.before.before.answer in sym (length-take-le _ _ (omega (arith, a.ensures.room, a.auto.1.0)))
+slice_aggregate-write_all : tie.Need-slice_aggregate-write_all
+slice_aggregate-write_all c = let a = c.before.before.answer in sym (length-take-le _ _ (omega (arith, a.ensures.room, a.auto.1.0)))
 
-write-all-requires : tie.Need-write-all-requires
-write-all-requires c κs = search rules
+write_all-requires : tie.Need-write_all-requires
+write_all-requires c κs = search rules
 
 returns : tie.Need-returns
 returns c = search rules
@@ -40,13 +40,13 @@ pub main_spec : {M : Type 1} → statement M
 main_spec =
     tie.close
     (tie.spec
-    slice-aggregate-read-full
-    read-full-requires
-    array-share-prefix-input
-    slice-aggregate-answer
-    slice-aggregate-answer-2
+    slice_aggregate-read_full
+    read_full-requires
+    array_share_prefix-input
+    slice_aggregate-answer
+    slice_aggregate-answer-2
     answer-requires
-    array-share-prefix-out
-    slice-aggregate-write-all
-    write-all-requires
+    array_share_prefix-out
+    slice_aggregate-write_all
+    write_all-requires
     returns)

@@ -28,14 +28,14 @@ as-leave c = c.before.before.before.before.before.before.before.before
 abbrev as-join : tie.After-join-arg7 → tie.After-e6
 as-join c = c.before.before.before.before.before.before.before.before
 
-enum_told : tie.Need-enum-told
+enum_told : tie.Need-enum_told
 enum_told c = search rules
 
 done-requires : tie.Need-done-requires
 done-requires c κs = search rules
 
-enum-known-e : tie.Need-enum-known-e
-enum-known-e c = search rules
+enum_known-e : tie.Need-enum_known-e
+enum_known-e c = search rules
 
 produce-requires : tie.Need-produce-requires
 unfolding EventFits
@@ -43,8 +43,8 @@ produce-requires c κs =
     let f = fits_as (as-produce c).e.given.1 (as-produce c).before.before.requires.0 in
     (f.0, f.1, (as-produce c).before.before.requires.1.topics_fit _)
 
-enum-known-e-2 : tie.Need-enum-known-e-2
-enum-known-e-2 c = search rules
+enum_known-e-2 : tie.Need-enum_known-e-2
+enum_known-e-2 c = search rules
 
 forward-requires : tie.Need-forward-requires
 unfolding EventFits
@@ -52,29 +52,29 @@ forward-requires c κs =
     let f = fits_as (as-forward c).e2.given.1 (as-forward c).before.before.requires.0 in
     (f.0, f.1, (as-forward c).before.before.requires.1.topics_fit _)
 
-enum-known-e-3 : tie.Need-enum-known-e-3
-enum-known-e-3 c = search rules
+enum_known-e-3 : tie.Need-enum_known-e-3
+enum_known-e-3 c = search rules
 
 subscribe-requires : tie.Need-subscribe-requires
 unfolding EventFits
 subscribe-requires c κs = (fits_as (as-subscribe c).e3.given.1 (as-subscribe c).before.before.requires.0).0
 
-enum-known-e-4 : tie.Need-enum-known-e-4
-enum-known-e-4 c = search rules
+enum_known-e-4 : tie.Need-enum_known-e-4
+enum_known-e-4 c = search rules
 
 unsubscribe-requires : tie.Need-unsubscribe-requires
 unfolding EventFits
 unsubscribe-requires c κs = (fits_as (as-unsubscribe c).e4.given.1 (as-unsubscribe c).before.before.requires.0).0
 
-enum-known-e-5 : tie.Need-enum-known-e-5
-enum-known-e-5 c = search rules
+enum_known-e-5 : tie.Need-enum_known-e-5
+enum_known-e-5 c = search rules
 
 leave-requires : tie.Need-leave-requires
 unfolding EventFits
 leave-requires c κs = fits_as (as-leave c).e5.given.1 (as-leave c).before.before.requires.0
 
-enum-known-e-6 : tie.Need-enum-known-e-6
-enum-known-e-6 c = search rules
+enum_known-e-6 : tie.Need-enum_known-e-6
+enum_known-e-6 c = search rules
 
 join-requires : tie.Need-join-requires
 unfolding EventFits
@@ -108,17 +108,17 @@ step_spec =
     (tie.spec
     enum_told
     done-requires
-    enum-known-e
+    enum_known-e
     produce-requires
-    enum-known-e-2
+    enum_known-e-2
     forward-requires
-    enum-known-e-3
+    enum_known-e-3
     subscribe-requires
-    enum-known-e-4
+    enum_known-e-4
     unsubscribe-requires
-    enum-known-e-5
+    enum_known-e-5
     leave-requires
-    enum-known-e-6
+    enum_known-e-6
     join-requires
     returns
     returns-2

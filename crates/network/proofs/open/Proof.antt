@@ -6,7 +6,7 @@ use Rattle.network.proofs.open.Statement.{statement}
 use Rattle.network.proofs.open.Tie as tie
 
 -- from where the rules were asked: where all was read; from where the seen were read: the neighbours; and from there, who is present
-abbrev filled : tie.After-verdict → tie.After-fill-known
+abbrev filled : tie.After-verdict → tie.After-fill_known
 filled c = c.before.before.before.before.before.before.before.before
 
 abbrev linked : tie.After-longs2 → tie.After-words4
@@ -39,8 +39,8 @@ longs-requires c κs = search rules
 longs-requires-2 : tie.Need-longs-requires-2
 longs-requires-2 c κs = search rules
 
-fill-known-requires : tie.Need-fill-known-requires
-fill-known-requires c κs = search rules
+fill_known-requires : tie.Need-fill_known-requires
+fill_known-requires c κs = search rules
 
 verdict-requires : tie.Need-verdict-requires
 verdict-requires c κs = search rules
@@ -67,6 +67,6 @@ open_spec =
     words-requires-4
     longs-requires
     longs-requires-2
-    fill-known-requires
+    fill_known-requires
     verdict-requires
     returns-2)

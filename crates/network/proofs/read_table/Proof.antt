@@ -14,7 +14,7 @@ read c = c.before.before
 
 -- what is found is the lowest bad row
 found : (c : tie.After-bad) → c.bad.result ≡ bad_row (read c).before.before.before.args.table.now
-found c = c.bad.ensures ∙ bad_is _ (λ i. ((read c).before.before.shared-slice-known.given i).fits) (read c).words.ensures
+found c = c.bad.ensures ∙ bad_is _ (λ i. ((read c).before.before.shared_slice_known.given i).fits) (read c).words.ensures
 
 unlisted-requires : tie.Need-unlisted-requires
 unlisted-requires c κs = search rules
@@ -43,10 +43,10 @@ returns-3 : tie.Need-returns-3
 returns-3 c =
     let b = c.before.before.before in
     let w = read b in
-    list_0 _ _ w.before.if1.left (found b) c.before.before.if2.false (c.columns.ensures ∙ table_is _ (λ i. (w.before.before.shared-slice-known.given i).fits) w.words.ensures)
+    list_0 _ _ w.before.if1.left (found b) c.before.before.if2.false (c.columns.ensures ∙ table_is _ (λ i. (w.before.before.shared_slice_known.given i).fits) w.words.ensures)
 
-pub read-table-spec : {M : Type 1} → statement M
-read-table-spec =
+pub read_table_spec : {M : Type 1} → statement M
+read_table_spec =
     tie.close
     (tie.spec
     unlisted-requires

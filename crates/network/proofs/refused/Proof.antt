@@ -11,5 +11,5 @@ blank-requires c κs = search rules
 returns : tie.Need-returns
 returns c = ap (opened _ _ _) c.blank.ensures
 
-pub refused-spec : {M : Type 1} → statement M
-refused-spec = tie.close (tie.spec blank-requires returns)
+pub refused_spec : {M : Type 1} → statement M
+refused_spec = tie.close (tie.spec blank-requires returns)

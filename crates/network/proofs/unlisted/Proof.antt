@@ -8,5 +8,5 @@ returns : tie.Need-returns
 unfolding blank_table
 returns c = search rules
 
-pub unlisted-spec : {M : Type 1} → statement M
-unlisted-spec = tie.close (tie.spec returns)
+pub unlisted_spec : {M : Type 1} → statement M
+unlisted_spec = tie.close (tie.spec returns)

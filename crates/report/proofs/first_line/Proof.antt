@@ -47,7 +47,7 @@ newline-requires c κs =
     let s = start (word (first (second (third c).before).before).before).before in
     omega (arith, length_byte s.args.number s.fits.number.fits, spaced_long s.args.place s.fits.place.fits, spaced_long s.args.accepted s.fits.accepted.fits)
 
-same_length : tie.Need-same-length
+same_length : tie.Need-same_length
 same_length c = search rules
 
 returns : tie.Need-returns
@@ -63,8 +63,8 @@ returns c =
       omega (arith, length_byte s.args.number s.fits.number.fits, spaced_long s.args.place s.fits.place.fits, spaced_long s.args.accepted s.fits.accepted.fits),
     )
 
-pub first-line-spec : {M : Type 1} → statement M
-first-line-spec =
+pub first_line_spec : {M : Type 1} → statement M
+first_line_spec =
     tie.close
     (tie.spec
     slice-aggregate-copy

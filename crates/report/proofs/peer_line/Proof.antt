@@ -37,7 +37,7 @@ pending c = (third c.before).before
 abbrev seen : tie.After-newline-arg → tie.After-size642
 seen c = (fourth c).before
 
-abbrev whole : tie.After-slice-known7 → tie.After-size642
+abbrev whole : tie.After-slice_known7 → tie.After-size642
 whole c = seen c.before.before.before
 
 abbrev peer : tie.After-size32 → ℕ
@@ -55,7 +55,7 @@ number-requires c κs = omega (arith, length_count (start (word c).before).args.
 size32-requires : tie.Need-size32-requires
 size32-requires c κs = search rules
 
-cast-spaced : tie.Need-overflow-cast-spaced
+cast-spaced : tie.Need-overflow_cast-spaced
 cast-spaced c = search rules
 
 spaced-requires : tie.Need-spaced-requires
@@ -64,7 +64,7 @@ spaced-requires c κs = omega (arith, length_count (peer c) (omega arith), space
 size64-requires : tie.Need-size64-requires
 size64-requires c κs = search rules
 
-cast-spaced-2 : tie.Need-overflow-cast-spaced-2
+cast-spaced-2 : tie.Need-overflow_cast-spaced-2
 cast-spaced-2 c = search rules
 
 spaced-requires-2 : tie.Need-spaced-requires-2
@@ -74,7 +74,7 @@ spaced-requires-2 c κs =
 size64-requires-2 : tie.Need-size64-requires-2
 size64-requires-2 c κs = search rules
 
-cast-spaced-3 : tie.Need-overflow-cast-spaced-3
+cast-spaced-3 : tie.Need-overflow_cast-spaced-3
 cast-spaced-3 c = search rules
 
 spaced-requires-3 : tie.Need-spaced-requires-3
@@ -85,7 +85,7 @@ newline-requires : tie.Need-newline-requires
 newline-requires c κs =
     omega (arith, length_count (peer (subs (pending (seen c)))) (omega arith), spaced_count (subs (pending (seen c))).size32.result (omega arith), spaced_count (pending (seen c)).size64.result (omega arith), spaced_count (seen c).size642.result (omega arith))
 
-same_length : tie.Need-same-length
+same_length : tie.Need-same_length
 same_length c = search rules
 
 returns : tie.Need-returns
@@ -103,8 +103,8 @@ returns c = (
   omega (arith, length_count (peer (subs (pending (whole c)))) (omega arith), spaced_count (subs (pending (whole c))).size32.result (omega arith), spaced_count (pending (whole c)).size64.result (omega arith), spaced_count (whole c).size642.result (omega arith)),
 )
 
-pub peer-line-spec : {M : Type 1} → statement M
-peer-line-spec =
+pub peer_line_spec : {M : Type 1} → statement M
+peer_line_spec =
     tie.close
     (tie.spec
     slice-aggregate-copy

@@ -17,7 +17,7 @@ abbrev decreases-loop : tie.decreases-loop
 decreases-loop out₀ at n next₀ left₀ out next left = size left
 
 -- from where a line's counts are at hand: where the peer was found
-abbrev found : tie.After-peer-line-arg4 invariant-loop decreases-loop → tie.After-lowest32 invariant-loop decreases-loop
+abbrev found : tie.After-peer_line-arg4 invariant-loop decreases-loop → tie.After-lowest32 invariant-loop decreases-loop
 found c = c.before.before.before.before
 
 loop-holds : tie.Need-loop-init invariant-loop decreases-loop
@@ -26,29 +26,29 @@ loop-holds c = (search rules, lines_none _ _ _ _ (search rules) (search rules))
 lowest32-requires : tie.Need-lowest32-requires invariant-loop decreases-loop
 lowest32-requires c κs = search rules
 
-cast-i : tie.Need-overflow-cast-i invariant-loop decreases-loop
+cast-i : tie.Need-overflow_cast-i invariant-loop decreases-loop
 cast-i c = search rules
 
-mul-peer-line : tie.Need-overflow-mul-peer-line invariant-loop decreases-loop
-mul-peer-line c = search rules
+mul-peer_line : tie.Need-overflow_mul-peer_line invariant-loop decreases-loop
+mul-peer_line c = search rules
 
-element-copy-out-peer-line : tie.Need-element-copy-out-peer-line invariant-loop decreases-loop
-element-copy-out-peer-line c = search rules
+element_copy_out-peer_line : tie.Need-element_copy_out-peer_line invariant-loop decreases-loop
+element_copy_out-peer_line c = search rules
 
-mul-peer-line-2 : tie.Need-overflow-mul-peer-line-2 invariant-loop decreases-loop
-mul-peer-line-2 c = search rules
+mul-peer_line-2 : tie.Need-overflow_mul-peer_line-2 invariant-loop decreases-loop
+mul-peer_line-2 c = search rules
 
-element-copy-out-peer-line-2 : tie.Need-element-copy-out-peer-line-2 invariant-loop decreases-loop
-element-copy-out-peer-line-2 c = search rules
+element_copy_out-peer_line-2 : tie.Need-element_copy_out-peer_line-2 invariant-loop decreases-loop
+element_copy_out-peer_line-2 c = search rules
 
-mul-peer-line-3 : tie.Need-overflow-mul-peer-line-3 invariant-loop decreases-loop
-mul-peer-line-3 c = search rules
+mul-peer_line-3 : tie.Need-overflow_mul-peer_line-3 invariant-loop decreases-loop
+mul-peer_line-3 c = search rules
 
-element-copy-out-peer-line-3 : tie.Need-element-copy-out-peer-line-3 invariant-loop decreases-loop
-element-copy-out-peer-line-3 c = search rules
+element_copy_out-peer_line-3 : tie.Need-element_copy_out-peer_line-3 invariant-loop decreases-loop
+element_copy_out-peer_line-3 c = search rules
 
-peer-line-requires : tie.Need-peer-line-requires invariant-loop decreases-loop
-peer-line-requires c κs =
+peer_line-requires : tie.Need-peer_line-requires invariant-loop decreases-loop
+peer_line-requires c κs =
     let turn = (found c).before.before.loop in
     (search rules, omega (arith, lines_room turn.inv.1 (search rules), turn.inv.0))
 
@@ -63,19 +63,19 @@ unfolding peer_line
 loop-again c =
     let wrote = c.before.before.before in
     let least = found wrote.before in (
-      omega (arith, wrote.peer-line.auto.0, least.before.before.loop.inv.0),
-      lines_more least.before.before.loop.inv.1 (search rules) least.lowest32.ensures.0 c.rest32.ensures.0 wrote.peer-line.ensures.0 wrote.peer-line.ensures.1,
+      omega (arith, wrote.peer_line.auto.0, least.before.before.loop.inv.0),
+      lines_more least.before.before.loop.inv.1 (search rules) least.lowest32.ensures.0 c.rest32.ensures.0 wrote.peer_line.ensures.0 wrote.peer_line.ensures.1,
     )
 
-same_length : tie.Need-same-length invariant-loop decreases-loop
+same_length : tie.Need-same_length invariant-loop decreases-loop
 same_length c = search rules
 
 returns : tie.Need-returns invariant-loop decreases-loop
 unfolding peer_lines
 returns c = lines_all c.before.loop.invariant.1 c.loop-test.false
 
-pub peer-lines-spec : {M : Type 1} → statement M
-peer-lines-spec =
+pub peer_lines_spec : {M : Type 1} → statement M
+peer_lines_spec =
     tie.close
     (tie.spec
     invariant-loop
@@ -83,13 +83,13 @@ peer-lines-spec =
     loop-holds
     lowest32-requires
     cast-i
-    mul-peer-line
-    element-copy-out-peer-line
-    mul-peer-line-2
-    element-copy-out-peer-line-2
-    mul-peer-line-3
-    element-copy-out-peer-line-3
-    peer-line-requires
+    mul-peer_line
+    element_copy_out-peer_line
+    mul-peer_line-2
+    element_copy_out-peer_line-2
+    mul-peer_line-3
+    element_copy_out-peer_line-3
+    peer_line-requires
     rest32-requires
     loop-less
     loop-again

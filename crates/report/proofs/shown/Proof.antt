@@ -16,5 +16,5 @@ returns-3 : tie.Need-returns-3
 unfolding shown_for
 returns-3 c = rw (ne_eqb _ 0 c.before.if1.false, lt-leb 6 _ c.if2.false)
 
-pub shown-spec : {M : Type 1} → statement M
-shown-spec = tie.close (tie.spec returns returns-2 returns-3)
+pub shown_spec : {M : Type 1} → statement M
+shown_spec = tie.close (tie.spec returns returns-2 returns-3)

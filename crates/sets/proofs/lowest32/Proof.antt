@@ -9,5 +9,5 @@ returns : tie.Need-returns
 unfolding lowest
 returns c = (search rules, lowest_lt 32 _ (search rules) (search rules))
 
-pub lowest32-spec : {M : Type 1} → statement M
-lowest32-spec = tie.close (tie.spec returns)
+pub lowest32_spec : {M : Type 1} → statement M
+lowest32_spec = tie.close (tie.spec returns)

@@ -9,5 +9,5 @@ returns : tie.Need-returns
 unfolding lowest
 returns c = (search rules, lowest_lt 64 _ (search rules) (search rules))
 
-pub lowest64-spec : {M : Type 1} → statement M
-lowest64-spec = tie.close (tie.spec returns)
+pub lowest64_spec : {M : Type 1} → statement M
+lowest64_spec = tie.close (tie.spec returns)

@@ -7,5 +7,5 @@ use Rattle.sets.proofs.minus32.Tie as tie
 returns : tie.Need-returns
 returns c = and_not 32 _ _ (search rules) (search rules)
 
-pub minus32-spec : {M : Type 1} → statement M
-minus32-spec = tie.close (tie.spec returns)
+pub minus32_spec : {M : Type 1} → statement M
+minus32_spec = tie.close (tie.spec returns)

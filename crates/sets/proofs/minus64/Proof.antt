@@ -7,5 +7,5 @@ use Rattle.sets.proofs.minus64.Tie as tie
 returns : tie.Need-returns
 returns c = and_not 64 _ _ (search rules) (search rules)
 
-pub minus64-spec : {M : Type 1} → statement M
-minus64-spec = tie.close (tie.spec returns)
+pub minus64_spec : {M : Type 1} → statement M
+minus64_spec = tie.close (tie.spec returns)

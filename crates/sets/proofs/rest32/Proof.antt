@@ -4,11 +4,11 @@ use Rattle.sets.specs.laws.Lowest.{and_pred, and_pred_lt}
 use Rattle.sets.proofs.rest32.Statement.{statement}
 use Rattle.sets.proofs.rest32.Tie as tie
 
-sub-result : tie.Need-overflow-sub-result
+sub-result : tie.Need-overflow_sub-result
 sub-result c = search rules
 
 returns : tie.Need-returns
 returns c = (and_pred 32 _ (search rules) (search rules), and_pred_lt 32 _ (search rules) (search rules))
 
-pub rest32-spec : {M : Type 1} → statement M
-rest32-spec = tie.close (tie.spec sub-result returns)
+pub rest32_spec : {M : Type 1} → statement M
+rest32_spec = tie.close (tie.spec sub-result returns)

@@ -9,5 +9,5 @@ returns : tie.Need-returns
 unfolding size
 returns c = (search rules, size_le 32 _ (search rules))
 
-pub size32-spec : {M : Type 1} → statement M
-size32-spec = tie.close (tie.spec returns)
+pub size32_spec : {M : Type 1} → statement M
+size32_spec = tie.close (tie.spec returns)

@@ -9,5 +9,5 @@ returns : tie.Need-returns
 unfolding size
 returns c = (search rules, size_le 64 _ (search rules))
 
-pub size64-spec : {M : Type 1} → statement M
-size64-spec = tie.close (tie.spec returns)
+pub size64_spec : {M : Type 1} → statement M
+size64_spec = tie.close (tie.spec returns)

@@ -62,6 +62,7 @@ module _ {A : Type 0} (f : ℕ → List A) where
 -- What stands in a list stands in it with another behind it, or before it; and nothing else does.
 in_front : (q : ℕ) (l r : List ℕ) → In q l → In q (l ++ r)
 unfolding In
+in_front q [] r h = elim h [ ]
 in_front q (x ∷ l) r (inl e) = inl e
 in_front q (x ∷ l) r (inr h) = inr (in_front q l r h)
 
@@ -79,9 +80,12 @@ in_either q (x ∷ l) r (inr h) = ⊎_elim (λ y. inl (inr y)) inr (in_either q 
 -- The list has the members of w below k.
 in_below : (k w q : ℕ) → In q (members k w) → (q < k) × (has w q ≡ true)
 unfolding rising In
+in_below zero w q h = elim h [ ]
 in_below (suc k) w q h = ⊎_elim (λ x. let y = in_below k w q x in (omega (arith, y.0), y.1)) (last (has w k) refl) (in_either q (members k w) _ h)
   where
     last : (b : Bool) → has w k ≡ b → In q (cond b (k ∷ []) []) → (q < suc k) × (has w q ≡ true)
+    last false e h = elim h [ ]
+    last true e (inr h) = elim h [ ]
     last true e (inl z) = (omega arith, ap (has w) z ∙ e)
 
 below_in : (k w q : ℕ) → q < k → has w q ≡ true → In q (members k w)

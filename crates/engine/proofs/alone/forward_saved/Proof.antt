@@ -11,7 +11,7 @@ abbrev second : tie.After-forward-arg2 → tie.Else2
 second c = c.before.before
 
 -- from where the state is written: the forward was accepted
-abbrev accepted : tie.After-save-messages-arg3 → tie.Else3
+abbrev accepted : tie.After-save_messages-arg3 → tie.Else3
 accepted c = c.before.before.before
 
 forwarded-requires : tie.Need-forwarded-requires
@@ -37,13 +37,13 @@ returns-3 c =
     let sent = c.before.before.before in
     λ n os b. forward_refused _ _ _ _ _ c.forwarded3.ensures (second sent.before).before.if1.false (second sent.before).if2.false (sent.forward.ensures n os).answer c.before.if3.true
 
-save-messages-requires : tie.Need-save-messages-requires
-save-messages-requires c κs = search rules
+save_messages-requires : tie.Need-save_messages-requires
+save_messages-requires c κs = search rules
 
 forwarded-requires-4 : tie.Need-forwarded-requires-4
 forwarded-requires-4 c κs = search rules
 
-same_length : tie.Need-same-length
+same_length : tie.Need-same_length
 same_length c = search rules
 
 returns-4 : tie.Need-returns-4
@@ -53,10 +53,10 @@ returns-4 c =
     let sent = e.before.before in
     λ n os b.
     let done = sent.forward.ensures n os in
-    forward_done _ _ _ _ _ c.forwarded4.ensures (second sent.before).before.if1.false (second sent.before).if2.false done.answer done.state e.if3.left (saved _ _ _ b s.save-messages.ensures)
+    forward_done _ _ _ _ _ c.forwarded4.ensures (second sent.before).before.if1.false (second sent.before).if2.false done.answer done.state e.if3.left (saved _ _ _ b s.save_messages.ensures)
 
-pub forward-saved-spec : {M : Type 1} → statement M
-forward-saved-spec =
+pub forward_saved_spec : {M : Type 1} → statement M
+forward_saved_spec =
     tie.close
     (tie.spec
     forwarded-requires
@@ -66,7 +66,7 @@ forward-saved-spec =
     forward-requires
     forwarded-requires-3
     returns-3
-    save-messages-requires
+    save_messages-requires
     forwarded-requires-4
     same_length
     returns-4)

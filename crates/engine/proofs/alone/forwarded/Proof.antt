@@ -9,5 +9,5 @@ size32-requires c κs = search rules
 returns : tie.Need-returns
 returns c = rw c.size32.ensures.0
 
-pub forwarded-spec : {M : Type 1} → statement M
-forwarded-spec = tie.close (tie.spec size32-requires returns)
+pub forwarded_spec : {M : Type 1} → statement M
+forwarded_spec = tie.close (tie.spec size32-requires returns)

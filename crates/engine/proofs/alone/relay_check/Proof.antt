@@ -15,5 +15,5 @@ answer-requires c κs = search rules
 returns : tie.Need-returns
 returns c = c.answer.ensures ∙ check_is _ (looked_is _ c.before.«open».ensures)
 
-pub relay-check-spec : {M : Type 1} → statement M
-relay-check-spec = tie.close (tie.spec open-requires answer-requires returns)
+pub relay_check_spec : {M : Type 1} → statement M
+relay_check_spec = tie.close (tie.spec open-requires answer-requires returns)

@@ -34,7 +34,7 @@ save-requires c κs = search rules
 answer-requires-3 : tie.Need-answer-requires-3
 answer-requires-3 c κs = search rules
 
-same_length : tie.Need-same-length
+same_length : tie.Need-same_length
 same_length c = search rules
 
 returns-3 : tie.Need-returns-3
@@ -44,8 +44,8 @@ returns-3 c =
     let z = e.if1.left in
     answered_as c.answer3.ensures (copy_done _ _ _ (looked_net _ (opened e).«open».ensures z) z (long s).if2.false s.save.ensures)
 
-pub relay-copy-spec : {M : Type 1} → statement M
-relay-copy-spec =
+pub relay_copy_spec : {M : Type 1} → statement M
+relay_copy_spec =
     tie.close
     (tie.spec
     open-requires

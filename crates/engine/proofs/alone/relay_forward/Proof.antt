@@ -15,7 +15,7 @@ abbrev begun : tie.After-topics2 → tie.After-start
 begun c = (read c).before.before
 
 -- from where the reading begins: the bytes that are read
-abbrev bytes : tie.After-known → tie.After-slice-known
+abbrev bytes : tie.After-known → tie.After-slice_known
 bytes c = c.before.before.before.before.before.before.before.before
 
 start-requires : tie.Need-start-requires
@@ -24,20 +24,20 @@ start-requires c κs = search rules
 forwarded-requires : tie.Need-forwarded-requires
 forwarded-requires c κs = search rules
 
-same_length : tie.Need-same-length
+same_length : tie.Need-same_length
 same_length c = search rules
 
 returns : tie.Need-returns
 returns c = forward_begun _ _ _ _ c.before.before.before.start.ensures c.forwarded.ensures c.before.if1.true
 
-forward-saved-requires : tie.Need-forward-saved-requires
-forward-saved-requires c κs = (
+forward_saved-requires : tie.Need-forward_saved-requires
+forward_saved-requires c κs = (
   started_long _ _ _ (begun c).start.result _ (begun c).start.ensures (read c).if1.false,
   (started_rows _ _ _ (begun c).start.result _ (begun c).start.ensures).topics_fit,
 )
 
-same-length-2 : tie.Need-same-length-2
-same-length-2 c = search rules
+same_length-2 : tie.Need-same_length-2
+same_length-2 c = search rules
 
 returns-2 : tie.Need-returns-2
 returns-2 c =
@@ -45,16 +45,16 @@ returns-2 c =
     let at = begun f.before in
     let z = (read f.before).if1.false in
     forward_read _ _ _ _ (started _ _ _ at.start.result _ at.start.ensures z) z
-    (f.forward-saved.ensures (mk 0 _ _ _ [] [] []) at.start.result.table.origins (started_bytes _ _ _ at.start.result _ at.start.ensures (λ i. ((bytes at.before).slice-known.given i).fits) z))
+    (f.forward_saved.ensures (mk 0 _ _ _ [] [] []) at.start.result.table.origins (started_bytes _ _ _ at.start.result _ at.start.ensures (λ i. ((bytes at.before).slice_known.given i).fits) z))
 
-pub relay-forward-spec : {M : Type 1} → statement M
-relay-forward-spec =
+pub relay_forward_spec : {M : Type 1} → statement M
+relay_forward_spec =
     tie.close
     (tie.spec
     start-requires
     forwarded-requires
     same_length
     returns
-    forward-saved-requires
-    same-length-2
+    forward_saved-requires
+    same_length-2
     returns-2)

@@ -6,7 +6,7 @@ use Rattle.engine.proofs.counts.count_in.Statement.{statement}
 use Rattle.engine.proofs.counts.count_in.Tie as tie
 
 -- from where the counts were read: the number of receivers
-abbrev sized : tie.After-row-known3 → tie.After-size32
+abbrev sized : tie.After-row_known3 → tie.After-size32
 sized c = c.before.before.before
 
 size32-requires : tie.Need-size32-requires
@@ -18,5 +18,5 @@ tallied-requires c κs = subst (Room _) (sym (sized c).size32.ensures.0) (sized 
 returns : tie.Need-returns
 returns c = c.tallied.ensures ∙ ap (tallied_of _ _) (sized c.before).size32.ensures.0
 
-pub count-in-spec : {M : Type 1} → statement M
-count-in-spec = tie.close (tie.spec size32-requires tallied-requires returns)
+pub count_in_spec : {M : Type 1} → statement M
+count_in_spec = tie.close (tie.spec size32-requires tallied-requires returns)

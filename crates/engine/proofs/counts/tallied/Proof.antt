@@ -15,19 +15,19 @@ use Rattle.engine.specs.Run.{tallied_of}
 use Rattle.engine.proofs.counts.tallied.Statement.{statement}
 use Rattle.engine.proofs.counts.tallied.Tie as tie
 
-enum_told : tie.Need-enum-told
+enum_told : tie.Need-enum_told
 enum_told c = search rules
 
-add-t5 : tie.Need-overflow-add-t5
+add-t5 : tie.Need-overflow_add-t5
 add-t5 c = search rules
 
-enum-told-2 : tie.Need-enum-told-2
-enum-told-2 c = search rules
+enum_told-2 : tie.Need-enum_told-2
+enum_told-2 c = search rules
 
-add-t6 : tie.Need-overflow-add-t6
+add-t6 : tie.Need-overflow_add-t6
 add-t6 c = search rules
 
-add-t8 : tie.Need-overflow-add-t8
+add-t8 : tie.Need-overflow_add-t8
 add-t8 c = search rules
 
 returns : tie.Need-returns
@@ -36,7 +36,7 @@ returns c = rw c.before.enum_told.given.1
 
 returns-2 : tie.Need-returns-2
 unfolding tallied_of
-returns-2 c = rw c.before.before.enum-told2.given.1
+returns-2 c = rw c.before.before.enum_told2.given.1
 
 -- produce and forward stand at places 1 and 2 of the enum, and the other kinds do not
 none_of : (x : ℕ) → 0 < x → x < 3 → OneOf (0 ∷ 3 ∷ 4 ∷ 5 ∷ 6 ∷ []) x → ⊥
@@ -60,6 +60,6 @@ others t Join d h = refl
 returns-3 : tie.Need-returns-3
 returns-3 c = others _ _ _ c.match.keys3
 
-pub tallied-spec : {M : Type 1} → statement M
-tallied-spec =
-    tie.close (tie.spec enum_told add-t5 enum-told-2 add-t6 add-t8 returns returns-2 returns-3)
+pub tallied_spec : {M : Type 1} → statement M
+tallied_spec =
+    tie.close (tie.spec enum_told add-t5 enum_told-2 add-t6 add-t8 returns returns-2 returns-3)

@@ -13,11 +13,11 @@ abbrev begun : tie.After-topics2 → tie.After-start
 begun c = (read c).before.before
 
 -- from where the state is written: where the drain was made
-abbrev drained : tie.After-save-messages-arg → tie.After-drain-all
+abbrev drained : tie.After-save_messages-arg → tie.After-drain_all
 drained c = c.before.before.before
 
 -- from where the reading begins: the bytes that are read
-abbrev bytes : tie.After-known → tie.After-slice-known
+abbrev bytes : tie.After-known → tie.After-slice_known
 bytes c = c.before.before.before.before.before.before.before.before
 
 start-requires : tie.Need-start-requires
@@ -26,24 +26,24 @@ start-requires c κs = search rules
 refused-requires : tie.Need-refused-requires
 refused-requires c κs = search rules
 
-same_length : tie.Need-same-length
+same_length : tie.Need-same_length
 same_length c = search rules
 
 returns : tie.Need-returns
 returns c = drain_refused _ _ _ c.before.before.before.start.ensures c.before.if1.true c.refused.ensures
 
-drain-all-requires : tie.Need-drain-all-requires
-drain-all-requires c κs = (started_rows _ _ _ (begun c).start.result _ (begun c).start.ensures).topics_fit
+drain_all-requires : tie.Need-drain_all-requires
+drain_all-requires c κs = (started_rows _ _ _ (begun c).start.result _ (begun c).start.ensures).topics_fit
 
-save-messages-requires : tie.Need-save-messages-requires
-save-messages-requires c κs =
+save_messages-requires : tie.Need-save_messages-requires
+save_messages-requires c κs =
     started_long _ _ _ (begun (drained c).before).start.result _ (begun (drained c).before).start.ensures (read (drained c).before).if1.false
 
 done-requires : tie.Need-done-requires
 done-requires c κs = search rules
 
-same-length-2 : tie.Need-same-length-2
-same-length-2 c = search rules
+same_length-2 : tie.Need-same_length-2
+same_length-2 c = search rules
 
 returns-2 : tie.Need-returns-2
 returns-2 c =
@@ -51,19 +51,19 @@ returns-2 c =
     let d = drained s.before in
     let at = begun d.before in
     let z = (read d.before).if1.false in
-    drain_done _ _ _ _ (λ i. ((bytes at.before).slice-known.given i).fits) (started _ _ _ at.start.result _ at.start.ensures z) z d.drain-all.ensures
-    (saved _ _ _ (started_bytes _ _ _ at.start.result _ at.start.ensures (λ i. ((bytes at.before).slice-known.given i).fits) z) s.save-messages.ensures) c.done.ensures
+    drain_done _ _ _ _ (λ i. ((bytes at.before).slice_known.given i).fits) (started _ _ _ at.start.result _ at.start.ensures z) z d.drain_all.ensures
+    (saved _ _ _ (started_bytes _ _ _ at.start.result _ at.start.ensures (λ i. ((bytes at.before).slice_known.given i).fits) z) s.save_messages.ensures) c.done.ensures
 
-pub relay-drain-spec : {M : Type 1} → statement M
-relay-drain-spec =
+pub relay_drain_spec : {M : Type 1} → statement M
+relay_drain_spec =
     tie.close
     (tie.spec
     start-requires
     refused-requires
     same_length
     returns
-    drain-all-requires
-    save-messages-requires
+    drain_all-requires
+    save_messages-requires
     done-requires
-    same-length-2
+    same_length-2
     returns-2)

@@ -42,7 +42,7 @@ save-requires c κs = search rules
 answer-requires-3 : tie.Need-answer-requires-3
 answer-requires-3 c κs = search rules
 
-same_length : tie.Need-same-length
+same_length : tie.Need-same_length
 same_length c = search rules
 
 returns-3 : tie.Need-returns-3
@@ -53,8 +53,8 @@ returns-3 c =
     answered_as c.answer3.ensures
     (image_done _ _ _ (looked_net _ (opened long.before).«open».ensures z) z long.if2.left (image_net_made _ (made s).before.underway.ensures (made s).settled.ensures) s.save.ensures)
 
-pub relay-image-spec : {M : Type 1} → statement M
-relay-image-spec =
+pub relay_image_spec : {M : Type 1} → statement M
+relay_image_spec =
     tie.close
     (tie.spec
     open-requires

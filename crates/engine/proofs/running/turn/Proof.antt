@@ -30,8 +30,8 @@ not_taken k e h = first (subst (λ (r : Read). OneOf (1 ∷ 2 ∷ 3 ∷ []) (tag
 abbrev read : tie.After-step-arg7 → tie.After-read
 read c = c.before.before.before.before.before.before.before.before
 
-enum-known-read : tie.Need-enum-known-read
-enum-known-read c = search rules
+enum_known-read : tie.Need-enum_known-read
+enum_known-read c = search rules
 
 step-requires : tie.Need-step-requires
 step-requires c κs = (taken_fits (read c).read.given.1 (read c).before.before.requires.0, (read c).before.before.requires.1)
@@ -52,4 +52,4 @@ returns-2 c =
     (c.refused.ensures ∙ ap (λ (x : Reading). refused_by x.number) c.before.answered.ensures)
 
 pub turn_spec : {M : Type 1} → statement M
-turn_spec = tie.close (tie.spec enum-known-read step-requires answered-requires refused-requires returns returns-2)
+turn_spec = tie.close (tie.spec enum_known-read step-requires answered-requires refused-requires returns returns-2)

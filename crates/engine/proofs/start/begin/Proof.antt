@@ -17,5 +17,5 @@ returns c = c.refused.ensures ∙ started_refused _ _ _ c.before.before.before.s
 returns-2 : tie.Need-returns-2
 returns-2 c = started _ _ _ c.before.before.before.start.result _ c.before.before.before.start.ensures c.before.if1.false
 
-pub begin-spec : {M : Type 1} → statement M
-begin-spec = tie.close (tie.spec start-requires refused-requires returns returns-2)
+pub begin_spec : {M : Type 1} → statement M
+begin_spec = tie.close (tie.spec start-requires refused-requires returns returns-2)

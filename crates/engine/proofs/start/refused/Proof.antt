@@ -11,5 +11,5 @@ returns : tie.Need-returns
 unfolding blank_table
 returns c = rw c.blank.ensures
 
-pub refused-spec : {M : Type 1} → statement M
-refused-spec = tie.close (tie.spec blank-requires returns)
+pub refused_spec : {M : Type 1} → statement M
+refused_spec = tie.close (tie.spec blank-requires returns)

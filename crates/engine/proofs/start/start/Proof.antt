@@ -8,14 +8,14 @@ use Rattle.engine.proofs.start.start.Statement.{statement}
 use Rattle.engine.proofs.start.start.Tie as tie
 
 -- from where the table was read: the last test of the lengths, with the two others just before it
-abbrev sized : tie.After-struct-known → tie.Else3
+abbrev sized : tie.After-struct_known → tie.Else3
 sized c = c.before.before
 
 -- from where the state was read: the table was found right; and the last test of the lengths
-abbrev tabled : tie.After-struct-known2 → tie.Else4
+abbrev tabled : tie.After-struct_known2 → tie.Else4
 tabled c = c.before.before.before.before.before.before.before.before
 
-abbrev sized2 : tie.After-struct-known2 → tie.Else3
+abbrev sized2 : tie.After-struct_known2 → tie.Else3
 sized2 c = sized (tabled c).before
 
 unstarted-requires : tie.Need-unstarted-requires
@@ -36,8 +36,8 @@ unstarted-requires-3 c κs = search rules
 returns-3 : tie.Need-returns-3
 returns-3 c = starts_refused _ _ _ 3 _ _ _ refl c.unstarted3.ensures (begin_3 _ _ _ c.before.before.before.if1.false c.before.before.if2.false c.before.if3.true)
 
-read-table-requires : tie.Need-read-table-requires
-read-table-requires c κs = search rules
+read_table-requires : tie.Need-read_table-requires
+read_table-requires c κs = search rules
 
 unstarted-requires-4 : tie.Need-unstarted-requires-4
 unstarted-requires-4 c κs = search rules
@@ -67,7 +67,7 @@ start_spec =
     returns-2
     unstarted-requires-3
     returns-3
-    read-table-requires
+    read_table-requires
     unstarted-requires-4
     returns-4
     open-requires

@@ -8,5 +8,5 @@ returns : tie.Need-returns
 unfolding blank_table
 returns c = refl
 
-pub unstarted-spec : {M : Type 1} → statement M
-unstarted-spec = tie.close (tie.spec returns)
+pub unstarted_spec : {M : Type 1} → statement M
+unstarted_spec = tie.close (tie.spec returns)

@@ -8,12 +8,12 @@ returns : tie.Need-returns
 unfolding join_ok
 returns c = simp (le-ltb _ _ c.if1.true)
 
-no-message-requires : tie.Need-no-message-requires
-no-message-requires c κs = search rules
+no_message-requires : tie.Need-no_message-requires
+no_message-requires c κs = search rules
 
 returns-2 : tie.Need-returns-2
 unfolding join_ok
-returns-2 c = simp (lt-ltb _ _ c.before.if1.false, c.no-message.ensures)
+returns-2 c = simp (lt-ltb _ _ c.before.if1.false, c.no_message.ensures)
 
-pub join-ok-spec : {M : Type 1} → statement M
-join-ok-spec = tie.close (tie.spec returns no-message-requires returns-2)
+pub join_ok_spec : {M : Type 1} → statement M
+join_ok_spec = tie.close (tie.spec returns no_message-requires returns-2)

@@ -11,5 +11,5 @@ returns-2 : tie.Need-returns-2
 unfolding no_message
 returns-2 c = simp (eq-eqb _ _ c.before.if1.false)
 
-pub no-message-spec : {M : Type 1} → statement M
-no-message-spec = tie.close (tie.spec returns returns-2)
+pub no_message_spec : {M : Type 1} → statement M
+no_message_spec = tie.close (tie.spec returns returns-2)

@@ -11,5 +11,5 @@ returns-2 : tie.Need-returns-2
 unfolding no_more
 returns-2 c = simp (eq-eqb _ _ c.before.if1.false)
 
-pub no-more-spec : {M : Type 1} → statement M
-no-more-spec = tie.close (tie.spec returns returns-2)
+pub no_more_spec : {M : Type 1} → statement M
+no_more_spec = tie.close (tie.spec returns returns-2)

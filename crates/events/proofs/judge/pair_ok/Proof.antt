@@ -18,14 +18,14 @@ returns-3 c =
     let second = c.before.before in
     simp (lt-ltb _ _ second.before.before.if1.false, lt-ltb _ _ second.if2.false, ne_eqb _ _ c.if3.true)
 
-no-sets-requires : tie.Need-no-sets-requires
-no-sets-requires c κs = search rules
+no_sets-requires : tie.Need-no_sets-requires
+no_sets-requires c κs = search rules
 
 returns-4 : tie.Need-returns-4
 unfolding pair_ok
 returns-4 c =
     let second = c.before.before.before in
-    simp (lt-ltb _ _ second.before.before.if1.false, lt-ltb _ _ second.if2.false, eq-eqb _ _ c.before.if3.false, c.no-sets.ensures)
+    simp (lt-ltb _ _ second.before.before.if1.false, lt-ltb _ _ second.if2.false, eq-eqb _ _ c.before.if3.false, c.no_sets.ensures)
 
-pub pair-ok-spec : {M : Type 1} → statement M
-pair-ok-spec = tie.close (tie.spec returns returns-2 returns-3 no-sets-requires returns-4)
+pub pair_ok_spec : {M : Type 1} → statement M
+pair_ok_spec = tie.close (tie.spec returns returns-2 returns-3 no_sets-requires returns-4)

@@ -9,20 +9,20 @@ returns : tie.Need-returns
 unfolding skip_ok
 returns c = simp (ne_eqb _ _ c.if1.true)
 
-no-message-requires : tie.Need-no-message-requires
-no-message-requires c κs = search rules
+no_message-requires : tie.Need-no_message-requires
+no_message-requires c κs = search rules
 
-no-sets-requires : tie.Need-no-sets-requires
-no-sets-requires c κs = search rules
+no_sets-requires : tie.Need-no_sets-requires
+no_sets-requires c κs = search rules
 
 returns-2 : tie.Need-returns-2
 unfolding skip_ok
-returns-2 c = simp (eq-eqb _ _ c.before.before.before.if1.false, sym c.before.before.no-message.ensures ∙ c.before.if2.true, c.no-sets.ensures)
+returns-2 c = simp (eq-eqb _ _ c.before.before.before.if1.false, sym c.before.before.no_message.ensures ∙ c.before.if2.true, c.no_sets.ensures)
 
 returns-3 : tie.Need-returns-3
 unfolding skip_ok
-returns-3 c = simp (eq-eqb _ _ c.before.before.if1.false, sym c.before.no-message.ensures ∙ c.if2.false)
+returns-3 c = simp (eq-eqb _ _ c.before.before.if1.false, sym c.before.no_message.ensures ∙ c.if2.false)
 
-pub skip-ok-spec : {M : Type 1} → statement M
-skip-ok-spec =
-    tie.close (tie.spec returns no-message-requires no-sets-requires returns-2 returns-3)
+pub skip_ok_spec : {M : Type 1} → statement M
+skip_ok_spec =
+    tie.close (tie.spec returns no_message-requires no_sets-requires returns-2 returns-3)

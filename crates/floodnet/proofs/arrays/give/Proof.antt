@@ -22,7 +22,7 @@ found c = c.before.before
 small : (c : tie.After-lowest64 invariant-loop decreases-loop) → c.lowest64.result < 32
 small c = (least_narrow (search rules) c.before.before.loop.invariant.below c.lowest64.ensures.0).1
 
-cast-i : tie.Need-overflow-cast-i invariant-loop decreases-loop
+cast-i : tie.Need-overflow_cast-i invariant-loop decreases-loop
 cast-i c = search rules
 
 loop-holds : tie.Need-loop-init invariant-loop decreases-loop
@@ -31,23 +31,23 @@ loop-holds c = visiting_none 32 _ _ _ (search rules)
 lowest64-requires : tie.Need-lowest64-requires invariant-loop decreases-loop
 lowest64-requires c κs = search rules
 
-cast-q : tie.Need-overflow-cast-q invariant-loop decreases-loop
+cast-q : tie.Need-overflow_cast-q invariant-loop decreases-loop
 cast-q c = search rules
 
-mul-with64 : tie.Need-overflow-mul-with64 invariant-loop decreases-loop
+mul-with64 : tie.Need-overflow_mul-with64 invariant-loop decreases-loop
 mul-with64 c = search rules
 
-element-copy-out-with64 : tie.Need-element-copy-out-with64 invariant-loop decreases-loop
-element-copy-out-with64 c = small c
+element_copy_out-with64 : tie.Need-element_copy_out-with64 invariant-loop decreases-loop
+element_copy_out-with64 c = small c
 
 with64-requires : tie.Need-with64-requires invariant-loop decreases-loop
 with64-requires c κs = search rules
 
-mul-pending : tie.Need-overflow-mul-pending invariant-loop decreases-loop
+mul-pending : tie.Need-overflow_mul-pending invariant-loop decreases-loop
 mul-pending c = search rules
 
-element-write-pending : tie.Need-element-write-pending invariant-loop decreases-loop
-element-write-pending c = small (found c)
+element_write-pending : tie.Need-element_write-pending invariant-loop decreases-loop
+element_write-pending c = small (found c)
 
 rest64-requires : tie.Need-rest64-requires invariant-loop decreases-loop
 rest64-requires c κs = search rules
@@ -75,10 +75,10 @@ give_spec =
     lowest64-requires
     cast-q
     mul-with64
-    element-copy-out-with64
+    element_copy_out-with64
     with64-requires
     mul-pending
-    element-write-pending
+    element_write-pending
     rest64-requires
     loop-less
     loop-again

@@ -23,7 +23,7 @@ found c = c.before.before.before.before
 small : (c : tie.After-lowest64 invariant-loop decreases-loop) → c.lowest64.result < 32
 small c = (least_narrow (search rules) c.before.before.loop.invariant.below c.lowest64.ensures.0).1
 
-cast-i : tie.Need-overflow-cast-i invariant-loop decreases-loop
+cast-i : tie.Need-overflow_cast-i invariant-loop decreases-loop
 cast-i c = search rules
 
 loop-holds : tie.Need-loop-init invariant-loop decreases-loop
@@ -32,20 +32,20 @@ loop-holds c = visit_none _ _ _ (search rules)
 lowest64-requires : tie.Need-lowest64-requires invariant-loop decreases-loop
 lowest64-requires c κs = search rules
 
-cast-q : tie.Need-overflow-cast-q invariant-loop decreases-loop
+cast-q : tie.Need-overflow_cast-q invariant-loop decreases-loop
 cast-q c = search rules
 
-mul-union64 : tie.Need-overflow-mul-union64 invariant-loop decreases-loop
+mul-union64 : tie.Need-overflow_mul-union64 invariant-loop decreases-loop
 mul-union64 c = search rules
 
-element-copy-out-union64 : tie.Need-element-copy-out-union64 invariant-loop decreases-loop
-element-copy-out-union64 c = small c
+element_copy_out-union64 : tie.Need-element_copy_out-union64 invariant-loop decreases-loop
+element_copy_out-union64 c = small c
 
-mul-union64-2 : tie.Need-overflow-mul-union64-2 invariant-loop decreases-loop
+mul-union64-2 : tie.Need-overflow_mul-union64-2 invariant-loop decreases-loop
 mul-union64-2 c = search rules
 
-element-copy-out-union64-2 : tie.Need-element-copy-out-union64-2 invariant-loop decreases-loop
-element-copy-out-union64-2 c = small c.before
+element_copy_out-union64-2 : tie.Need-element_copy_out-union64-2 invariant-loop decreases-loop
+element_copy_out-union64-2 c = small c.before
 
 union64-requires : tie.Need-union64-requires invariant-loop decreases-loop
 union64-requires c κs = search rules
@@ -53,8 +53,8 @@ union64-requires c κs = search rules
 has64-requires : tie.Need-has64-requires invariant-loop decreases-loop
 has64-requires c κs = search rules
 
-with-least64-requires : tie.Need-with-least64-requires invariant-loop decreases-loop
-with-least64-requires c κs = search rules
+with_least64-requires : tie.Need-with_least64-requires invariant-loop decreases-loop
+with_least64-requires c κs = search rules
 
 rest64-requires : tie.Need-rest64-requires invariant-loop decreases-loop
 rest64-requires c κs = search rules
@@ -66,16 +66,16 @@ loop-again : tie.Need-loop-preserved invariant-loop decreases-loop
 loop-again c =
     let asked = c.before.before in
     lacking_more _ _ _ (found asked).before.before.loop.invariant (search rules) (found asked).lowest64.ensures.0 c.rest64.ensures.0
-    asked.before.union64.ensures asked.has64.ensures c.before.with-least64.ensures
+    asked.before.union64.ensures asked.has64.ensures c.before.with_least64.ensures
 
-cast-result : tie.Need-overflow-cast-result invariant-loop decreases-loop
+cast-result : tie.Need-overflow_cast-result invariant-loop decreases-loop
 cast-result c = record { fits = visit_lt c.before.loop.invariant }
 
 returns : tie.Need-returns invariant-loop decreases-loop
 returns c = lacking_done _ _ _ c.before.loop.invariant c.loop-test.false (search rules)
 
-pub lacking-spec : {M : Type 1} → statement M
-lacking-spec =
+pub lacking_spec : {M : Type 1} → statement M
+lacking_spec =
     tie.close
     (tie.spec
     invariant-loop
@@ -85,12 +85,12 @@ lacking-spec =
     lowest64-requires
     cast-q
     mul-union64
-    element-copy-out-union64
+    element_copy_out-union64
     mul-union64-2
-    element-copy-out-union64-2
+    element_copy_out-union64-2
     union64-requires
     has64-requires
-    with-least64-requires
+    with_least64-requires
     rest64-requires
     loop-less
     loop-again

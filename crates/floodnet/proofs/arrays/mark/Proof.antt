@@ -17,7 +17,7 @@ decreases-loop neighbours₀ who i left₀ neighbours left = size left
 abbrev found : tie.After-with32 invariant-loop decreases-loop → tie.After-lowest32 invariant-loop decreases-loop
 found c = c.before.before
 
-cast-i : tie.Need-overflow-cast-i invariant-loop decreases-loop
+cast-i : tie.Need-overflow_cast-i invariant-loop decreases-loop
 cast-i c = search rules
 
 loop-holds : tie.Need-loop-init invariant-loop decreases-loop
@@ -26,23 +26,23 @@ loop-holds c = visiting_none 32 _ _ _ (search rules)
 lowest32-requires : tie.Need-lowest32-requires invariant-loop decreases-loop
 lowest32-requires c κs = search rules
 
-cast-q : tie.Need-overflow-cast-q invariant-loop decreases-loop
+cast-q : tie.Need-overflow_cast-q invariant-loop decreases-loop
 cast-q c = search rules
 
-mul-with32 : tie.Need-overflow-mul-with32 invariant-loop decreases-loop
+mul-with32 : tie.Need-overflow_mul-with32 invariant-loop decreases-loop
 mul-with32 c = search rules
 
-element-copy-out-with32 : tie.Need-element-copy-out-with32 invariant-loop decreases-loop
-element-copy-out-with32 c = search rules
+element_copy_out-with32 : tie.Need-element_copy_out-with32 invariant-loop decreases-loop
+element_copy_out-with32 c = search rules
 
 with32-requires : tie.Need-with32-requires invariant-loop decreases-loop
 with32-requires c κs = search rules
 
-mul-neighbours : tie.Need-overflow-mul-neighbours invariant-loop decreases-loop
+mul-neighbours : tie.Need-overflow_mul-neighbours invariant-loop decreases-loop
 mul-neighbours c = search rules
 
-element-write-neighbours : tie.Need-element-write-neighbours invariant-loop decreases-loop
-element-write-neighbours c = search rules
+element_write-neighbours : tie.Need-element_write-neighbours invariant-loop decreases-loop
+element_write-neighbours c = search rules
 
 rest32-requires : tie.Need-rest32-requires invariant-loop decreases-loop
 rest32-requires c κs = search rules
@@ -70,10 +70,10 @@ mark_spec =
     lowest32-requires
     cast-q
     mul-with32
-    element-copy-out-with32
+    element_copy_out-with32
     with32-requires
     mul-neighbours
-    element-write-neighbours
+    element_write-neighbours
     rest32-requires
     loop-less
     loop-again

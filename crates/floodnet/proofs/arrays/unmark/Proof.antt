@@ -17,7 +17,7 @@ decreases-loop neighbours₀ who i left₀ neighbours left = size left
 abbrev found : tie.After-without32 invariant-loop decreases-loop → tie.After-lowest32 invariant-loop decreases-loop
 found c = c.before.before
 
-cast-i : tie.Need-overflow-cast-i invariant-loop decreases-loop
+cast-i : tie.Need-overflow_cast-i invariant-loop decreases-loop
 cast-i c = search rules
 
 loop-holds : tie.Need-loop-init invariant-loop decreases-loop
@@ -26,23 +26,23 @@ loop-holds c = visiting_none 32 _ _ _ (search rules)
 lowest32-requires : tie.Need-lowest32-requires invariant-loop decreases-loop
 lowest32-requires c κs = search rules
 
-cast-q : tie.Need-overflow-cast-q invariant-loop decreases-loop
+cast-q : tie.Need-overflow_cast-q invariant-loop decreases-loop
 cast-q c = search rules
 
-mul-without32 : tie.Need-overflow-mul-without32 invariant-loop decreases-loop
+mul-without32 : tie.Need-overflow_mul-without32 invariant-loop decreases-loop
 mul-without32 c = search rules
 
-element-copy-out-without32 : tie.Need-element-copy-out-without32 invariant-loop decreases-loop
-element-copy-out-without32 c = search rules
+element_copy_out-without32 : tie.Need-element_copy_out-without32 invariant-loop decreases-loop
+element_copy_out-without32 c = search rules
 
 without32-requires : tie.Need-without32-requires invariant-loop decreases-loop
 without32-requires c κs = search rules
 
-mul-neighbours : tie.Need-overflow-mul-neighbours invariant-loop decreases-loop
+mul-neighbours : tie.Need-overflow_mul-neighbours invariant-loop decreases-loop
 mul-neighbours c = search rules
 
-element-write-neighbours : tie.Need-element-write-neighbours invariant-loop decreases-loop
-element-write-neighbours c = search rules
+element_write-neighbours : tie.Need-element_write-neighbours invariant-loop decreases-loop
+element_write-neighbours c = search rules
 
 rest32-requires : tie.Need-rest32-requires invariant-loop decreases-loop
 rest32-requires c κs = search rules
@@ -59,8 +59,8 @@ loop-again c =
 returns : tie.Need-returns invariant-loop decreases-loop
 returns c = visiting_done c.before.loop.invariant c.loop-test.false ∙ visits_edit _ 32 _ _ (search rules)
 
-pub unmark-spec : {M : Type 1} → statement M
-unmark-spec =
+pub unmark_spec : {M : Type 1} → statement M
+unmark_spec =
     tie.close
     (tie.spec
     invariant-loop
@@ -70,10 +70,10 @@ unmark-spec =
     lowest32-requires
     cast-q
     mul-without32
-    element-copy-out-without32
+    element_copy_out-without32
     without32-requires
     mul-neighbours
-    element-write-neighbours
+    element_write-neighbours
     rest32-requires
     loop-less
     loop-again

@@ -4,51 +4,51 @@ use Rattle.floodnet.specs.Links.{cleared}
 use Rattle.floodnet.proofs.links.clear.Statement.{statement}
 use Rattle.floodnet.proofs.links.clear.Tie as tie
 
-cast-i : tie.Need-overflow-cast-i
+cast-i : tie.Need-overflow_cast-i
 cast-i c = search rules
 
-cast-without32 : tie.Need-overflow-cast-without32
+cast-without32 : tie.Need-overflow_cast-without32
 cast-without32 c = search rules
 
 without32-requires : tie.Need-without32-requires
 without32-requires c κs = search rules
 
-mul-pubs : tie.Need-overflow-mul-pubs
+mul-pubs : tie.Need-overflow_mul-pubs
 mul-pubs c = search rules
 
-element-write-pubs : tie.Need-element-write-pubs
-element-write-pubs c = search rules
+element_write-pubs : tie.Need-element_write-pubs
+element_write-pubs c = search rules
 
-mul-subs : tie.Need-overflow-mul-subs
+mul-subs : tie.Need-overflow_mul-subs
 mul-subs c = search rules
 
-element-write-subs : tie.Need-element-write-subs
-element-write-subs c = search rules
+element_write-subs : tie.Need-element_write-subs
+element_write-subs c = search rules
 
-mul-neighbours : tie.Need-overflow-mul-neighbours
+mul-neighbours : tie.Need-overflow_mul-neighbours
 mul-neighbours c = search rules
 
-element-write-neighbours : tie.Need-element-write-neighbours
-element-write-neighbours c = search rules
+element_write-neighbours : tie.Need-element_write-neighbours
+element_write-neighbours c = search rules
 
-mul-pending : tie.Need-overflow-mul-pending
+mul-pending : tie.Need-overflow_mul-pending
 mul-pending c = search rules
 
-element-write-pending : tie.Need-element-write-pending
-element-write-pending c = search rules
+element_write-pending : tie.Need-element_write-pending
+element_write-pending c = search rules
 
-mul-seen : tie.Need-overflow-mul-seen
+mul-seen : tie.Need-overflow_mul-seen
 mul-seen c = search rules
 
-element-write-seen : tie.Need-element-write-seen
-element-write-seen c = search rules
+element_write-seen : tie.Need-element_write-seen
+element_write-seen c = search rules
 
-row-clear-requires : tie.Need-row-clear-requires
-row-clear-requires c κs = search rules
+row_clear-requires : tie.Need-row_clear-requires
+row_clear-requires c κs = search rules
 
 returns : tie.Need-returns
 unfolding cleared
-returns c = λ n. rw (c.before.before.without32.ensures, c.row-clear.ensures)
+returns c = λ n. rw (c.before.before.without32.ensures, c.row_clear.ensures)
 
 pub clear_spec : {M : Type 1} → statement M
 clear_spec =
@@ -58,14 +58,14 @@ clear_spec =
     cast-without32
     without32-requires
     mul-pubs
-    element-write-pubs
+    element_write-pubs
     mul-subs
-    element-write-subs
+    element_write-subs
     mul-neighbours
-    element-write-neighbours
+    element_write-neighbours
     mul-pending
-    element-write-pending
+    element_write-pending
     mul-seen
-    element-write-seen
-    row-clear-requires
+    element_write-seen
+    row_clear-requires
     returns)

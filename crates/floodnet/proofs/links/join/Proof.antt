@@ -7,7 +7,7 @@ use Rattle.floodnet.proofs.links.join.Statement.{statement}
 use Rattle.floodnet.proofs.links.join.Tie as tie
 
 -- from where the links are made: where the peer was placed; and from there, where it was cleared
-abbrev placed : tie.After-link-up-arg3 → tie.After-place
+abbrev placed : tie.After-link_up-arg3 → tie.After-place
 placed c = c.before.before.before
 
 abbrev cleared : tie.After-place-arg3 → tie.After-clear
@@ -19,11 +19,11 @@ clear-requires c κs = search rules
 place-requires : tie.Need-place-requires
 place-requires c κs = search rules
 
-link-up-requires : tie.Need-link-up-requires
-link-up-requires c κs = search rules
+link_up-requires : tie.Need-link_up-requires
+link_up-requires c κs = search rules
 
 returns : tie.Need-returns
 returns c = λ n. joined_law _ _ _ _ _ _ _ _ ((cleared (placed c.before).before).clear.ensures n) ((placed c.before).place.ensures (with_all n 0 [] [] _ _ _ _)) (c.Link-up.ensures (with_all n _ _ [] [] _ _ []))
 
-pub join-spec : {M : Type 1} → statement M
-join-spec = tie.close (tie.spec clear-requires place-requires link-up-requires returns)
+pub join_spec : {M : Type 1} → statement M
+join_spec = tie.close (tie.spec clear-requires place-requires link_up-requires returns)

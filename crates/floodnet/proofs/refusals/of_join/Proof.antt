@@ -10,7 +10,7 @@ use Rattle.floodnet.proofs.refusals.of_join.Tie as tie
 abbrev absent : tie.After-has322 → tie.Else1
 absent c = c.before.before
 
-cast-has32 : tie.Need-overflow-cast-has32
+cast-has32 : tie.Need-overflow_cast-has32
 cast-has32 c = search rules
 
 has32-requires : tie.Need-has32-requires
@@ -20,7 +20,7 @@ returns : tie.Need-returns
 unfolding refusal_join
 returns c = λ n. need_fails _ _ _ (test_bars c.before.has32.ensures c.if1.true)
 
-cast-has32-2 : tie.Need-overflow-cast-has32-2
+cast-has32-2 : tie.Need-overflow_cast-has32-2
 cast-has32-2 c = search rules
 
 has32-requires-2 : tie.Need-has32-requires-2
@@ -41,8 +41,8 @@ returns-4 : tie.Need-returns-4
 unfolding refusal_join
 returns-4 c = λ n. need_holds _ _ _ (test_frees (absent c.before.before.before).before.has32.ensures (absent c.before.before.before).if1.false) (need_holds _ _ _ (test_frees c.before.before.before.has322.ensures c.before.before.if2.false) (need_holds _ _ _ (none_holds c.before.minus32.ensures c.if3.false) (refl)))
 
-pub of-join-spec : {M : Type 1} → statement M
-of-join-spec =
+pub of_join_spec : {M : Type 1} → statement M
+of_join_spec =
     tie.close
     (tie.spec
     cast-has32

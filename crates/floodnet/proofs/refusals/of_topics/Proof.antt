@@ -6,7 +6,7 @@ use Rattle.floodnet.proofs.CodeRefusals.{need_fails, need_holds, test_fails, tes
 use Rattle.floodnet.proofs.refusals.of_topics.Statement.{statement}
 use Rattle.floodnet.proofs.refusals.of_topics.Tie as tie
 
-cast-has32 : tie.Need-overflow-cast-has32
+cast-has32 : tie.Need-overflow_cast-has32
 cast-has32 c = search rules
 
 has32-requires : tie.Need-has32-requires
@@ -20,5 +20,5 @@ returns-2 : tie.Need-returns-2
 unfolding refusal_topics
 returns-2 c = λ n. need_holds _ _ _ (test_holds c.before.has32.ensures c.if1.false) (refl)
 
-pub of-topics-spec : {M : Type 1} → statement M
-of-topics-spec = tie.close (tie.spec cast-has32 has32-requires returns returns-2)
+pub of_topics_spec : {M : Type 1} → statement M
+of_topics_spec = tie.close (tie.spec cast-has32 has32-requires returns returns-2)

@@ -18,7 +18,7 @@ decreases-loop known₀ who own left₀ known left = left
 abbrev found : tie.After-rest32 invariant-loop decreases-loop → tie.After-lowest32 invariant-loop decreases-loop
 found c = c.before.before.before
 
-cast-with32 : tie.Need-overflow-cast-with32 invariant-loop decreases-loop
+cast-with32 : tie.Need-overflow_cast-with32 invariant-loop decreases-loop
 cast-with32 c = search rules
 
 with32-requires : tie.Need-with32-requires invariant-loop decreases-loop
@@ -30,11 +30,11 @@ loop-holds c = picking_none _ _ _ _ (search rules) rows_none
 lowest32-requires : tie.Need-lowest32-requires invariant-loop decreases-loop
 lowest32-requires c κs = search rules
 
-cast-t10 : tie.Need-overflow-cast-t10 invariant-loop decreases-loop
+cast-t10 : tie.Need-overflow_cast-t10 invariant-loop decreases-loop
 cast-t10 c = search rules
 
-row-minus-requires : tie.Need-row-minus-requires invariant-loop decreases-loop
-row-minus-requires c κs = search rules
+row_minus-requires : tie.Need-row_minus-requires invariant-loop decreases-loop
+row_minus-requires c κs = search rules
 
 rest32-requires : tie.Need-rest32-requires invariant-loop decreases-loop
 rest32-requires c κs = search rules
@@ -44,13 +44,13 @@ loop-less c = search rules
 
 loop-again : tie.Need-loop-preserved invariant-loop decreases-loop
 loop-again c =
-    dropping_row _ (found c).before.before.loop.invariant (search rules) (found c).lowest32.ensures.0 c.rest32.ensures.0 c.before.row-minus.ensures
+    dropping_row _ (found c).before.before.loop.invariant (search rules) (found c).lowest32.ensures.0 c.rest32.ensures.0 c.before.row_minus.ensures
 
 returns : tie.Need-returns invariant-loop decreases-loop
 returns c = along_done c.before.loop.invariant c.loop-test.false ∙ rows_dropped _ _ _ _ c.before.before.with32.ensures
 
-pub drop-all-spec : {M : Type 1} → statement M
-drop-all-spec =
+pub drop_all_spec : {M : Type 1} → statement M
+drop_all_spec =
     tie.close
     (tie.spec
     invariant-loop
@@ -60,7 +60,7 @@ drop-all-spec =
     loop-holds
     lowest32-requires
     cast-t10
-    row-minus-requires
+    row_minus-requires
     rest32-requires
     loop-less
     loop-again

@@ -13,7 +13,7 @@ abbrev decreases-loop : tie.decreases-loop
 decreases-loop known₀ p subs who left₀ known left = left
 
 -- from where a peer's topics were noted: where it was found
-abbrev found : tie.After-row-note invariant-loop decreases-loop → tie.After-lowest32 invariant-loop decreases-loop
+abbrev found : tie.After-row_note invariant-loop decreases-loop → tie.After-lowest32 invariant-loop decreases-loop
 found c = c.before.before.before
 
 loop-holds : tie.Need-loop-init invariant-loop decreases-loop
@@ -22,20 +22,20 @@ loop-holds c = along_none _ _ _ (search rules) (learnt_none _ _)
 lowest32-requires : tie.Need-lowest32-requires invariant-loop decreases-loop
 lowest32-requires c κs = search rules
 
-cast-topics : tie.Need-overflow-cast-topics invariant-loop decreases-loop
+cast-topics : tie.Need-overflow_cast-topics invariant-loop decreases-loop
 cast-topics c = search rules
 
-mul-topics : tie.Need-overflow-mul-topics invariant-loop decreases-loop
+mul-topics : tie.Need-overflow_mul-topics invariant-loop decreases-loop
 mul-topics c = search rules
 
-element-copy-out-topics : tie.Need-element-copy-out-topics invariant-loop decreases-loop
-element-copy-out-topics c = search rules
+element_copy_out-topics : tie.Need-element_copy_out-topics invariant-loop decreases-loop
+element_copy_out-topics c = search rules
 
-cast-t16 : tie.Need-overflow-cast-t16 invariant-loop decreases-loop
+cast-t16 : tie.Need-overflow_cast-t16 invariant-loop decreases-loop
 cast-t16 c = search rules
 
-row-note-requires : tie.Need-row-note-requires invariant-loop decreases-loop
-row-note-requires c κs = search rules
+row_note-requires : tie.Need-row_note-requires invariant-loop decreases-loop
+row_note-requires c κs = search rules
 
 rest32-requires : tie.Need-rest32-requires invariant-loop decreases-loop
 rest32-requires c κs = search rules
@@ -45,13 +45,13 @@ loop-less c = search rules
 
 loop-again : tie.Need-loop-preserved invariant-loop decreases-loop
 loop-again c =
-    learning _ _ (found c.before).before.before.loop.inv (search rules) (found c.before).lowest32.ensures.0 c.rest32.ensures.0 c.before.row-note.ensures
+    learning _ _ (found c.before).before.before.loop.inv (search rules) (found c.before).lowest32.ensures.0 c.rest32.ensures.0 c.before.row_note.ensures
 
 returns : tie.Need-returns invariant-loop decreases-loop
 returns c = along_done c.before.loop.invariant c.loop-test.false
 
-pub learn-spec : {M : Type 1} → statement M
-learn-spec =
+pub learn_spec : {M : Type 1} → statement M
+learn_spec =
     tie.close
     (tie.spec
     invariant-loop
@@ -60,9 +60,9 @@ learn-spec =
     lowest32-requires
     cast-topics
     mul-topics
-    element-copy-out-topics
+    element_copy_out-topics
     cast-t16
-    row-note-requires
+    row_note-requires
     rest32-requires
     loop-less
     loop-again

@@ -25,11 +25,11 @@ loop-holds c = picking_none _ _ _ _ (search rules) (inside_no_peer _)
 lowest32-requires : tie.Need-lowest32-requires invariant-loop decreases-loop
 lowest32-requires c κs = search rules
 
-cast-t9 : tie.Need-overflow-cast-t9 invariant-loop decreases-loop
+cast-t9 : tie.Need-overflow_cast-t9 invariant-loop decreases-loop
 cast-t9 c = search rules
 
-row-note-requires : tie.Need-row-note-requires invariant-loop decreases-loop
-row-note-requires c κs = search rules
+row_note-requires : tie.Need-row_note-requires invariant-loop decreases-loop
+row_note-requires c κs = search rules
 
 rest32-requires : tie.Need-rest32-requires invariant-loop decreases-loop
 rest32-requires c κs = search rules
@@ -39,13 +39,13 @@ loop-less c = search rules
 
 loop-again : tie.Need-loop-preserved invariant-loop decreases-loop
 loop-again c =
-    noting_row _ _ (puts_twice _) (found c).before.before.loop.invariant (search rules) (found c).lowest32.ensures.0 c.rest32.ensures.0 (c.before.row-note.ensures ∙ sym (inside_noted _ _ _ _))
+    noting_row _ _ (puts_twice _) (found c).before.before.loop.invariant (search rules) (found c).lowest32.ensures.0 c.rest32.ensures.0 (c.before.row_note.ensures ∙ sym (inside_noted _ _ _ _))
 
 returns : tie.Need-returns invariant-loop decreases-loop
 returns c = along_done c.before.loop.invariant c.loop-test.false ∙ inside_noted _ _ _ _
 
-pub note-all-spec : {M : Type 1} → statement M
-note-all-spec =
+pub note_all_spec : {M : Type 1} → statement M
+note_all_spec =
     tie.close
     (tie.spec
     invariant-loop
@@ -53,7 +53,7 @@ note-all-spec =
     loop-holds
     lowest32-requires
     cast-t9
-    row-note-requires
+    row_note-requires
     rest32-requires
     loop-less
     loop-again

@@ -22,13 +22,13 @@ loop-holds c = (search rules, row_none _ _ _)
 spot-requires : tie.Need-spot-requires invariant-loop decreases-loop
 spot-requires c κs = search rules
 
-mul-known : tie.Need-overflow-mul-known invariant-loop decreases-loop
+mul-known : tie.Need-overflow_mul-known invariant-loop decreases-loop
 mul-known c = search rules
 
-element-write-known : tie.Need-element-write-known invariant-loop decreases-loop
-element-write-known c = search rules
+element_write-known : tie.Need-element_write-known invariant-loop decreases-loop
+element_write-known c = search rules
 
-add-t : tie.Need-overflow-add-t invariant-loop decreases-loop
+add-t : tie.Need-overflow_add-t invariant-loop decreases-loop
 add-t c = search rules
 
 loop-less : tie.Need-loop-smaller invariant-loop decreases-loop
@@ -41,8 +41,8 @@ loop-again c = (search rules, row_more _ _ _ _ (search rules) c.before.before.lo
 returns : tie.Need-returns invariant-loop decreases-loop
 returns c = row_all _ _ _ _ c.before.loop.invariant.1 (omega arith)
 
-pub row-clear-spec : {M : Type 1} → statement M
-row-clear-spec =
+pub row_clear_spec : {M : Type 1} → statement M
+row_clear_spec =
     tie.close
     (tie.spec
     invariant-loop
@@ -50,7 +50,7 @@ row-clear-spec =
     loop-holds
     spot-requires
     mul-known
-    element-write-known
+    element_write-known
     add-t
     loop-less
     loop-again

@@ -22,22 +22,22 @@ loop-holds c = (search rules, row_none _ _ _)
 spot-requires : tie.Need-spot-requires invariant-loop decreases-loop
 spot-requires c κs = search rules
 
-mul-minus32 : tie.Need-overflow-mul-minus32 invariant-loop decreases-loop
+mul-minus32 : tie.Need-overflow_mul-minus32 invariant-loop decreases-loop
 mul-minus32 c = search rules
 
-element-copy-out-minus32 : tie.Need-element-copy-out-minus32 invariant-loop decreases-loop
-element-copy-out-minus32 c = search rules
+element_copy_out-minus32 : tie.Need-element_copy_out-minus32 invariant-loop decreases-loop
+element_copy_out-minus32 c = search rules
 
 minus32-requires : tie.Need-minus32-requires invariant-loop decreases-loop
 minus32-requires c κs = search rules
 
-mul-known : tie.Need-overflow-mul-known invariant-loop decreases-loop
+mul-known : tie.Need-overflow_mul-known invariant-loop decreases-loop
 mul-known c = search rules
 
-element-write-known : tie.Need-element-write-known invariant-loop decreases-loop
-element-write-known c = search rules
+element_write-known : tie.Need-element_write-known invariant-loop decreases-loop
+element_write-known c = search rules
 
-add-t : tie.Need-overflow-add-t invariant-loop decreases-loop
+add-t : tie.Need-overflow_add-t invariant-loop decreases-loop
 add-t c = search rules
 
 loop-less : tie.Need-loop-smaller invariant-loop decreases-loop
@@ -52,8 +52,8 @@ loop-again c =
 returns : tie.Need-returns invariant-loop decreases-loop
 returns c = row_all _ _ _ _ c.before.loop.invariant.1 (omega arith)
 
-pub row-minus-spec : {M : Type 1} → statement M
-row-minus-spec =
+pub row_minus_spec : {M : Type 1} → statement M
+row_minus_spec =
     tie.close
     (tie.spec
     invariant-loop
@@ -61,10 +61,10 @@ row-minus-spec =
     loop-holds
     spot-requires
     mul-minus32
-    element-copy-out-minus32
+    element_copy_out-minus32
     minus32-requires
     mul-known
-    element-write-known
+    element_write-known
     add-t
     loop-less
     loop-again

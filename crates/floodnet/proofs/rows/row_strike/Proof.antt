@@ -14,7 +14,7 @@ invariant-loop known₀ row topics i left₀ known left = Picking topics left (i
 abbrev decreases-loop : tie.decreases-loop
 decreases-loop known₀ row topics i left₀ known left = left
 
-cast-i : tie.Need-overflow-cast-i invariant-loop decreases-loop
+cast-i : tie.Need-overflow_cast-i invariant-loop decreases-loop
 cast-i c = search rules
 
 loop-holds : tie.Need-loop-init invariant-loop decreases-loop
@@ -23,26 +23,26 @@ loop-holds c = picking_none _ _ _ _ (search rules) (inside_no_topic _)
 lowest32-requires : tie.Need-lowest32-requires invariant-loop decreases-loop
 lowest32-requires c κs = search rules
 
-cast-t10 : tie.Need-overflow-cast-t10 invariant-loop decreases-loop
+cast-t10 : tie.Need-overflow_cast-t10 invariant-loop decreases-loop
 cast-t10 c = search rules
 
 spot-requires : tie.Need-spot-requires invariant-loop decreases-loop
 spot-requires c κs = search rules
 
-mul-without32 : tie.Need-overflow-mul-without32 invariant-loop decreases-loop
+mul-without32 : tie.Need-overflow_mul-without32 invariant-loop decreases-loop
 mul-without32 c = search rules
 
-element-copy-out-without32 : tie.Need-element-copy-out-without32 invariant-loop decreases-loop
-element-copy-out-without32 c = search rules
+element_copy_out-without32 : tie.Need-element_copy_out-without32 invariant-loop decreases-loop
+element_copy_out-without32 c = search rules
 
 without32-requires : tie.Need-without32-requires invariant-loop decreases-loop
 without32-requires c κs = search rules
 
-mul-known : tie.Need-overflow-mul-known invariant-loop decreases-loop
+mul-known : tie.Need-overflow_mul-known invariant-loop decreases-loop
 mul-known c = search rules
 
-element-write-known : tie.Need-element-write-known invariant-loop decreases-loop
-element-write-known c = search rules
+element_write-known : tie.Need-element_write-known invariant-loop decreases-loop
+element_write-known c = search rules
 
 rest32-requires : tie.Need-rest32-requires invariant-loop decreases-loop
 rest32-requires c κs = search rules
@@ -59,8 +59,8 @@ loop-again c =
 returns : tie.Need-returns invariant-loop decreases-loop
 returns c = along_done c.before.loop.invariant c.loop-test.false ∙ inside_struck _ _ _ _
 
-pub row-strike-spec : {M : Type 1} → statement M
-row-strike-spec =
+pub row_strike_spec : {M : Type 1} → statement M
+row_strike_spec =
     tie.close
     (tie.spec
     invariant-loop
@@ -71,10 +71,10 @@ row-strike-spec =
     cast-t10
     spot-requires
     mul-without32
-    element-copy-out-without32
+    element_copy_out-without32
     without32-requires
     mul-known
-    element-write-known
+    element_write-known
     rest32-requires
     loop-less
     loop-again

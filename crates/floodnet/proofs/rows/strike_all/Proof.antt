@@ -25,11 +25,11 @@ loop-holds c = picking_none _ _ _ _ (search rules) (inside_no_peer _)
 lowest32-requires : tie.Need-lowest32-requires invariant-loop decreases-loop
 lowest32-requires c κs = search rules
 
-cast-t9 : tie.Need-overflow-cast-t9 invariant-loop decreases-loop
+cast-t9 : tie.Need-overflow_cast-t9 invariant-loop decreases-loop
 cast-t9 c = search rules
 
-row-strike-requires : tie.Need-row-strike-requires invariant-loop decreases-loop
-row-strike-requires c κs = search rules
+row_strike-requires : tie.Need-row_strike-requires invariant-loop decreases-loop
+row_strike-requires c κs = search rules
 
 rest32-requires : tie.Need-rest32-requires invariant-loop decreases-loop
 rest32-requires c κs = search rules
@@ -39,13 +39,13 @@ loop-less c = search rules
 
 loop-again : tie.Need-loop-preserved invariant-loop decreases-loop
 loop-again c =
-    noting_row _ _ (strikes_twice _) (found c).before.before.loop.invariant (search rules) (found c).lowest32.ensures.0 c.rest32.ensures.0 (c.before.row-strike.ensures ∙ sym (inside_struck _ _ _ _))
+    noting_row _ _ (strikes_twice _) (found c).before.before.loop.invariant (search rules) (found c).lowest32.ensures.0 c.rest32.ensures.0 (c.before.row_strike.ensures ∙ sym (inside_struck _ _ _ _))
 
 returns : tie.Need-returns invariant-loop decreases-loop
 returns c = along_done c.before.loop.invariant c.loop-test.false ∙ inside_struck _ _ _ _
 
-pub strike-all-spec : {M : Type 1} → statement M
-strike-all-spec =
+pub strike_all_spec : {M : Type 1} → statement M
+strike_all_spec =
     tie.close
     (tie.spec
     invariant-loop
@@ -53,7 +53,7 @@ strike-all-spec =
     loop-holds
     lowest32-requires
     cast-t9
-    row-strike-requires
+    row_strike-requires
     rest32-requires
     loop-less
     loop-again

@@ -13,15 +13,15 @@ use Rattle.floodnet.proofs.turns.forward.Tie as tie
 abbrev allowed : tie.After-forward → tie.Else1
 allowed c = c.before.before.before
 
-of-forward-requires : tie.Need-of-forward-requires
-of-forward-requires c κs = search rules
+of_forward-requires : tie.Need-of_forward-requires
+of_forward-requires c κs = search rules
 
 refused-requires : tie.Need-refused-requires
 refused-requires c κs = search rules
 
 returns : tie.Need-returns
 unfolding refusal kind_of
-returns c = λ n os. stepped_refused _ (c.before.before.of-forward.ensures (with_messages n [] _ _)) c.before.if1.true c.refused.ensures
+returns c = λ n os. stepped_refused _ (c.before.before.of_forward.ensures (with_messages n [] _ _)) c.before.if1.true c.refused.ensures
 
 forward-requires : tie.Need-forward-requires
 forward-requires c κs = search rules
@@ -32,14 +32,14 @@ done-requires c κs = search rules
 returns-2 : tie.Need-returns-2
 unfolding refusal effect kind_of receivers_of
 returns-2 c =
-    λ n os. stepped_done _ ((allowed c.before).before.of-forward.ensures (with_messages n [] _ _)) (allowed c.before).if1.false (c.before.forward.ensures.1 (with_present n _) os) c.done.ensures
+    λ n os. stepped_done _ ((allowed c.before).before.of_forward.ensures (with_messages n [] _ _)) (allowed c.before).if1.false (c.before.forward.ensures.1 (with_present n _) os) c.done.ensures
     (c.before.forward.ensures.0 (with_present n _) os)
 
-pub forward-spec : {M : Type 1} → statement M
-forward-spec =
+pub forward_spec : {M : Type 1} → statement M
+forward_spec =
     tie.close
     (tie.spec
-    of-forward-requires
+    of_forward-requires
     refused-requires
     returns
     forward-requires

@@ -12,15 +12,15 @@ use Rattle.floodnet.proofs.turns.join.Tie as tie
 abbrev allowed : tie.After-join → tie.Else1
 allowed c = c.before.before.before.before.before.before.before.before
 
-of-join-requires : tie.Need-of-join-requires
-of-join-requires c κs = search rules
+of_join-requires : tie.Need-of_join-requires
+of_join-requires c κs = search rules
 
 refused-requires : tie.Need-refused-requires
 refused-requires c κs = search rules
 
 returns : tie.Need-returns
 unfolding refusal kind_of
-returns c = λ n b. stepped_refused _ (c.before.before.of-join.ensures (with_all n 0 _ _ _ _ _ _)) c.before.if1.true c.refused.ensures
+returns c = λ n b. stepped_refused _ (c.before.before.of_join.ensures (with_all n 0 _ _ _ _ _ _)) c.before.if1.true c.refused.ensures
 
 join-requires : tie.Need-join-requires
 join-requires c κs = search rules
@@ -30,9 +30,9 @@ done-requires c κs = search rules
 
 returns-2 : tie.Need-returns-2
 unfolding refusal effect kind_of receivers_of
-returns-2 c = λ n b. stepped_done _ ((allowed c.before).before.of-join.ensures (with_all n 0 _ _ _ _ _ _)) (allowed c.before).if1.false (c.before.join.ensures n) c.done.ensures refl
+returns-2 c = λ n b. stepped_done _ ((allowed c.before).before.of_join.ensures (with_all n 0 _ _ _ _ _ _)) (allowed c.before).if1.false (c.before.join.ensures n) c.done.ensures refl
 
-pub join-spec : {M : Type 1} → statement M
-join-spec =
+pub join_spec : {M : Type 1} → statement M
+join_spec =
     tie.close
-    (tie.spec of-join-requires refused-requires returns join-requires done-requires returns-2)
+    (tie.spec of_join-requires refused-requires returns join-requires done-requires returns-2)

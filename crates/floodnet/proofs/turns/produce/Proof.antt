@@ -12,15 +12,15 @@ use Rattle.floodnet.proofs.turns.produce.Tie as tie
 abbrev allowed : tie.After-produce → tie.Else1
 allowed c = c.before.before
 
-of-produce-requires : tie.Need-of-produce-requires
-of-produce-requires c κs = search rules
+of_produce-requires : tie.Need-of_produce-requires
+of_produce-requires c κs = search rules
 
 refused-requires : tie.Need-refused-requires
 refused-requires c κs = search rules
 
 returns : tie.Need-returns
 unfolding refusal kind_of
-returns c = λ n. stepped_refused _ (c.before.before.of-produce.ensures n) c.before.if1.true c.refused.ensures
+returns c = λ n. stepped_refused _ (c.before.before.of_produce.ensures n) c.before.if1.true c.refused.ensures
 
 produce-requires : tie.Need-produce-requires
 produce-requires c κs = search rules
@@ -30,13 +30,13 @@ done-requires c κs = search rules
 
 returns-2 : tie.Need-returns-2
 unfolding refusal effect kind_of receivers_of
-returns-2 c = λ n. stepped_done _ ((allowed c.before).before.of-produce.ensures n) (allowed c.before).if1.false (c.before.produce.ensures (with_present (with_pubs (with_seen n _) _) _)) c.done.ensures refl
+returns-2 c = λ n. stepped_done _ ((allowed c.before).before.of_produce.ensures n) (allowed c.before).if1.false (c.before.produce.ensures (with_present (with_pubs (with_seen n _) _) _)) c.done.ensures refl
 
-pub produce-spec : {M : Type 1} → statement M
-produce-spec =
+pub produce_spec : {M : Type 1} → statement M
+produce_spec =
     tie.close
     (tie.spec
-    of-produce-requires
+    of_produce-requires
     refused-requires
     returns
     produce-requires

@@ -13,15 +13,15 @@ use Rattle.floodnet.proofs.turns.unsubscribe.Tie as tie
 abbrev allowed : tie.After-unsubscribe → tie.Else1
 allowed c = c.before.before.before
 
-of-topics-requires : tie.Need-of-topics-requires
-of-topics-requires c κs = search rules
+of_topics-requires : tie.Need-of_topics-requires
+of_topics-requires c κs = search rules
 
 refused-requires : tie.Need-refused-requires
 refused-requires c κs = search rules
 
 returns : tie.Need-returns
 unfolding refusal kind_of
-returns c = λ n b. stepped_refused _ (c.before.before.of-topics.ensures (with_links n _ _ _)) c.before.if1.true c.refused.ensures
+returns c = λ n b. stepped_refused _ (c.before.before.of_topics.ensures (with_links n _ _ _)) c.before.if1.true c.refused.ensures
 
 unsubscribe-requires : tie.Need-unsubscribe-requires
 unsubscribe-requires c κs = search rules
@@ -31,13 +31,13 @@ done-requires c κs = search rules
 
 returns-2 : tie.Need-returns-2
 unfolding refusal effect kind_of receivers_of
-returns-2 c = λ n b. stepped_done _ ((allowed c.before).before.of-topics.ensures (with_links n _ _ _)) (allowed c.before).if1.false (c.before.unsubscribe.ensures (with_present n _)) c.done.ensures refl
+returns-2 c = λ n b. stepped_done _ ((allowed c.before).before.of_topics.ensures (with_links n _ _ _)) (allowed c.before).if1.false (c.before.unsubscribe.ensures (with_present n _)) c.done.ensures refl
 
-pub unsubscribe-spec : {M : Type 1} → statement M
-unsubscribe-spec =
+pub unsubscribe_spec : {M : Type 1} → statement M
+unsubscribe_spec =
     tie.close
     (tie.spec
-    of-topics-requires
+    of_topics-requires
     refused-requires
     returns
     unsubscribe-requires

@@ -26,30 +26,30 @@ loop-holds c = (search rules, filled_none 1024 _ _ (search rules))
 row-requires : tie.Need-row-requires invariant-loop decreases-loop
 row-requires c κs = search rules
 
-put-row-requires : tie.Need-put-row-requires invariant-loop decreases-loop
-put-row-requires c κs = search rules
+put_row-requires : tie.Need-put_row-requires invariant-loop decreases-loop
+put_row-requires c κs = search rules
 
-add-p : tie.Need-overflow-add-p invariant-loop decreases-loop
+add-p : tie.Need-overflow_add-p invariant-loop decreases-loop
 add-p c = search rules
 
 loop-less : tie.Need-loop-smaller invariant-loop decreases-loop
 loop-less c = search rules
 
 loop-again : tie.Need-loop-preserved invariant-loop decreases-loop
-loop-again c = (search rules, row_read _ (head c.before).loop.p c.before.row.ensures c.put-row.ensures (head c.before).loop.inv.1)
+loop-again c = (search rules, row_read _ (head c.before).loop.p c.before.row.ensures c.put_row.ensures (head c.before).loop.inv.1)
 
 returns : tie.Need-returns invariant-loop decreases-loop
 returns c = let e : c.before.loop.p ≡ 32 = omega arith in filled_all (rw e at c.before.loop.invariant.1)
 
-pub fill-known-spec : {M : Type 1} → statement M
-fill-known-spec =
+pub fill_known_spec : {M : Type 1} → statement M
+fill_known_spec =
     tie.close
     (tie.spec
     invariant-loop
     decreases-loop
     loop-holds
     row-requires
-    put-row-requires
+    put_row-requires
     add-p
     loop-less
     loop-again

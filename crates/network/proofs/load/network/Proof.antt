@@ -40,8 +40,8 @@ returns c =
     net_is _ (counted c).before.before.words.ensures (counted c).ones.ensures (linked c).before.before.words2.ensures (linked c).before.words3.ensures (linked c).words4.ensures
     c.before.before.longs.ensures c.before.longs2.ensures c.known.ensures
 
-pub network-spec : {M : Type 1} → statement M
-network-spec =
+pub network_spec : {M : Type 1} → statement M
+network_spec =
     tie.close
     (tie.spec
     words-requires

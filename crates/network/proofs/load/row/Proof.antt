@@ -16,34 +16,34 @@ invariant-loop state i r₀ t₀ r t = (t ≤ 32) × Filled 32 (λ (u : ℕ). wo
 abbrev decreases-loop : tie.decreases-loop
 decreases-loop state i r₀ t₀ r t = 32 - t
 
-cast-i : tie.Need-overflow-cast-i invariant-loop decreases-loop
+cast-i : tie.Need-overflow_cast-i invariant-loop decreases-loop
 cast-i c = search rules
 
 loop-holds : tie.Need-loop-init invariant-loop decreases-loop
 loop-holds c = (search rules, filled_none 32 _ _ (length-replicate {A = ℕ} 32 0))
 
-mul-le4 : tie.Need-overflow-mul-le4 invariant-loop decreases-loop
+mul-le4 : tie.Need-overflow_mul-le4 invariant-loop decreases-loop
 mul-le4 c = search rules
 
-add-le4 : tie.Need-overflow-add-le4 invariant-loop decreases-loop
+add-le4 : tie.Need-overflow_add-le4 invariant-loop decreases-loop
 add-le4 c = search rules
 
-add-le4-2 : tie.Need-overflow-add-le4-2 invariant-loop decreases-loop
+add-le4-2 : tie.Need-overflow_add-le4-2 invariant-loop decreases-loop
 add-le4-2 c = search rules
 
-mul-le4-2 : tie.Need-overflow-mul-le4-2 invariant-loop decreases-loop
+mul-le4-2 : tie.Need-overflow_mul-le4-2 invariant-loop decreases-loop
 mul-le4-2 c = search rules
 
 le4-requires : tie.Need-le4-requires invariant-loop decreases-loop
 le4-requires c κs = search rules
 
-mul-r : tie.Need-overflow-mul-r invariant-loop decreases-loop
+mul-r : tie.Need-overflow_mul-r invariant-loop decreases-loop
 mul-r c = search rules
 
-array-write-r : tie.Need-array-write-r invariant-loop decreases-loop
-array-write-r c = search rules
+array_write-r : tie.Need-array_write-r invariant-loop decreases-loop
+array_write-r c = search rules
 
-add-t : tie.Need-overflow-add-t invariant-loop decreases-loop
+add-t : tie.Need-overflow_add-t invariant-loop decreases-loop
 add-t c = search rules
 
 loop-less : tie.Need-loop-smaller invariant-loop decreases-loop
@@ -56,8 +56,8 @@ loop-again c = (search rules, filled_more c.le4.result c.before.before.loop.inva
 returns : tie.Need-returns invariant-loop decreases-loop
 returns c = let e : c.before.loop.t ≡ 32 = omega arith in filled_all (rw e at c.before.loop.invariant.1)
 
-pub row-spec : {M : Type 1} → statement M
-row-spec =
+pub row_spec : {M : Type 1} → statement M
+row_spec =
     tie.close
     (tie.spec
     invariant-loop
@@ -70,7 +70,7 @@ row-spec =
     mul-le4-2
     le4-requires
     mul-r
-    array-write-r
+    array_write-r
     add-t
     loop-less
     loop-again

@@ -26,16 +26,16 @@ head c = c.before.before.before
 loop-holds : tie.Need-loop-init invariant-loop decreases-loop
 loop-holds c = (search rules, all_start _)
 
-mul_right : tie.Need-overflow-mul-right invariant-loop decreases-loop
+mul_right : tie.Need-overflow_mul-right invariant-loop decreases-loop
 mul_right c = search rules
 
-element-copy-out-right : tie.Need-element-copy-out-right invariant-loop decreases-loop
-element-copy-out-right c = search rules
+element_copy_out-right : tie.Need-element_copy_out-right invariant-loop decreases-loop
+element_copy_out-right c = search rules
 
 right-requires : tie.Need-right-requires invariant-loop decreases-loop
 right-requires c κs = search rules
 
-add_r : tie.Need-overflow-add-r invariant-loop decreases-loop
+add_r : tie.Need-overflow_add-r invariant-loop decreases-loop
 add_r c = search rules
 
 loop-less : tie.Need-loop-smaller invariant-loop decreases-loop
@@ -55,15 +55,15 @@ loop-again c =
 returns : tie.Need-returns invariant-loop decreases-loop
 returns c = let e : c.before.loop.r ≡ 64 = omega arith in rw e at c.before.loop.invariant.1
 
-pub all-right-spec : {M : Type 1} → statement M
-all-right-spec =
+pub all_right_spec : {M : Type 1} → statement M
+all_right_spec =
     tie.close
     (tie.spec
     invariant-loop
     decreases-loop
     loop-holds
     mul_right
-    element-copy-out-right
+    element_copy_out-right
     right-requires
     add_r
     loop-less

@@ -21,8 +21,8 @@ decreases-loop words r₀ r = 64 - r
 abbrev head : tie.After-right invariant-loop decreases-loop → tie.At-loop invariant-loop decreases-loop
 head c = c.before.before.before
 
-all-right-requires : tie.Need-all-right-requires invariant-loop decreases-loop
-all-right-requires c κs = search rules
+all_right-requires : tie.Need-all_right-requires invariant-loop decreases-loop
+all_right-requires c κs = search rules
 
 returns : tie.Need-returns invariant-loop decreases-loop
 unfolding bad_word
@@ -31,11 +31,11 @@ returns c = sym (lowest_of_all 64 _ (sym c.before.all_right.ensures ∙ c.if1.tr
 loop-holds : tie.Need-loop-init invariant-loop decreases-loop
 loop-holds c = (search rules, lowest_of_start _)
 
-mul_right : tie.Need-overflow-mul-right invariant-loop decreases-loop
+mul_right : tie.Need-overflow_mul-right invariant-loop decreases-loop
 mul_right c = search rules
 
-element-copy-out-right : tie.Need-element-copy-out-right invariant-loop decreases-loop
-element-copy-out-right c = search rules
+element_copy_out-right : tie.Need-element_copy_out-right invariant-loop decreases-loop
+element_copy_out-right c = search rules
 
 right-requires : tie.Need-right-requires invariant-loop decreases-loop
 right-requires c κs = search rules
@@ -44,7 +44,7 @@ returns-2 : tie.Need-returns-2 invariant-loop decreases-loop
 unfolding bad_word
 returns-2 c = lowest_of_found 64 _ _ (head c.before).loop.inv.1 (search rules) (ap not (sym c.before.right.ensures) ∙ c.if2.true)
 
-add_r : tie.Need-overflow-add-r invariant-loop decreases-loop
+add_r : tie.Need-overflow_add-r invariant-loop decreases-loop
 add_r c = search rules
 
 loop-less : tie.Need-loop-smaller invariant-loop decreases-loop
@@ -57,17 +57,17 @@ returns-3 : tie.Need-returns-3 invariant-loop decreases-loop
 unfolding bad_word
 returns-3 c = let e : c.before.loop.r ≡ 64 = omega arith in rw e at c.before.loop.invariant.1
 
-pub bad-spec : {M : Type 1} → statement M
-bad-spec =
+pub bad_spec : {M : Type 1} → statement M
+bad_spec =
     tie.close
     (tie.spec
     invariant-loop
     decreases-loop
-    all-right-requires
+    all_right-requires
     returns
     loop-holds
     mul_right
-    element-copy-out-right
+    element_copy_out-right
     right-requires
     returns-2
     add_r

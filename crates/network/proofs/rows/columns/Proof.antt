@@ -19,31 +19,31 @@ decreases-loop words topics₀ origins₀ r₀ topics origins r = 64 - r
 loop-holds : tie.Need-loop-init invariant-loop decreases-loop
 loop-holds c = (search rules, filled_none 64 _ _ (length-replicate {A = ℕ} 64 0), filled_none 64 _ _ (length-replicate {A = ℕ} 64 0))
 
-mul-topics : tie.Need-overflow-mul-topics invariant-loop decreases-loop
+mul-topics : tie.Need-overflow_mul-topics invariant-loop decreases-loop
 mul-topics c = search rules
 
-element-copy-out-topics : tie.Need-element-copy-out-topics invariant-loop decreases-loop
-element-copy-out-topics c = search rules
+element_copy_out-topics : tie.Need-element_copy_out-topics invariant-loop decreases-loop
+element_copy_out-topics c = search rules
 
-cast-topics : tie.Need-overflow-cast-topics invariant-loop decreases-loop
+cast-topics : tie.Need-overflow_cast-topics invariant-loop decreases-loop
 cast-topics c = search rules
 
-array-write-topics : tie.Need-array-write-topics invariant-loop decreases-loop
-array-write-topics c = search rules
+array_write-topics : tie.Need-array_write-topics invariant-loop decreases-loop
+array_write-topics c = search rules
 
-mul-origins : tie.Need-overflow-mul-origins invariant-loop decreases-loop
+mul-origins : tie.Need-overflow_mul-origins invariant-loop decreases-loop
 mul-origins c = search rules
 
-element-copy-out-origins : tie.Need-element-copy-out-origins invariant-loop decreases-loop
-element-copy-out-origins c = search rules
+element_copy_out-origins : tie.Need-element_copy_out-origins invariant-loop decreases-loop
+element_copy_out-origins c = search rules
 
-cast-origins : tie.Need-overflow-cast-origins invariant-loop decreases-loop
+cast-origins : tie.Need-overflow_cast-origins invariant-loop decreases-loop
 cast-origins c = search rules
 
-array-write-origins : tie.Need-array-write-origins invariant-loop decreases-loop
-array-write-origins c = search rules
+array_write-origins : tie.Need-array_write-origins invariant-loop decreases-loop
+array_write-origins c = search rules
 
-add_r : tie.Need-overflow-add-r invariant-loop decreases-loop
+add_r : tie.Need-overflow_add-r invariant-loop decreases-loop
 add_r c = search rules
 
 loop-less : tie.Need-loop-smaller invariant-loop decreases-loop
@@ -69,13 +69,13 @@ columns_spec =
     decreases-loop
     loop-holds
     mul-topics
-    element-copy-out-topics
+    element_copy_out-topics
     cast-topics
-    array-write-topics
+    array_write-topics
     mul-origins
-    element-copy-out-origins
+    element_copy_out-origins
     cast-origins
-    array-write-origins
+    array_write-origins
     add_r
     loop-less
     loop-again

@@ -13,5 +13,5 @@ returns-2 : tie.Need-returns-2
 unfolding word_right
 returns-2 c = rw (lt-ltb c.before.args.w 8192 (omega arith))
 
-pub right-spec : {M : Type 1} → statement M
-right-spec = tie.close (tie.spec returns returns-2)
+pub right_spec : {M : Type 1} → statement M
+right_spec = tie.close (tie.spec returns returns-2)

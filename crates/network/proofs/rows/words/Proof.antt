@@ -19,19 +19,19 @@ decreases-loop table x₀ r₀ x r = 64 - r
 loop-holds : tie.Need-loop-init invariant-loop decreases-loop
 loop-holds c = (search rules, filled_none 64 _ _ (length-replicate {A = ℕ} 64 0))
 
-mul-le4 : tie.Need-overflow-mul-le4 invariant-loop decreases-loop
+mul-le4 : tie.Need-overflow_mul-le4 invariant-loop decreases-loop
 mul-le4 c = search rules
 
 le4-requires : tie.Need-le4-requires invariant-loop decreases-loop
 le4-requires c κs = search rules
 
-mul-x : tie.Need-overflow-mul-x invariant-loop decreases-loop
+mul-x : tie.Need-overflow_mul-x invariant-loop decreases-loop
 mul-x c = search rules
 
-array-write-x : tie.Need-array-write-x invariant-loop decreases-loop
-array-write-x c = search rules
+array_write-x : tie.Need-array_write-x invariant-loop decreases-loop
+array_write-x c = search rules
 
-add_r : tie.Need-overflow-add-r invariant-loop decreases-loop
+add_r : tie.Need-overflow_add-r invariant-loop decreases-loop
 add_r c = search rules
 
 loop-less : tie.Need-loop-smaller invariant-loop decreases-loop
@@ -44,8 +44,8 @@ loop-again c = (search rules, filled_more c.le4.result c.before.before.loop.inva
 returns : tie.Need-returns invariant-loop decreases-loop
 returns c = let e : c.before.loop.r ≡ 64 = omega arith in filled_all (rw e at c.before.loop.invariant.1)
 
-pub words-spec : {M : Type 1} → statement M
-words-spec =
+pub words_spec : {M : Type 1} → statement M
+words_spec =
     tie.close
     (tie.spec
     invariant-loop
@@ -54,7 +54,7 @@ words-spec =
     mul-le4
     le4-requires
     mul-x
-    array-write-x
+    array_write-x
     add_r
     loop-less
     loop-again

@@ -10,18 +10,18 @@ use Rattle.network.proofs.rules.fault.Tie as tie
 returns : tie.Need-returns
 returns c = λ n. fault_head _ _ _ c.if1.true
 
-absent-fault-requires : tie.Need-absent-fault-requires
-absent-fault-requires c κs = search rules
+absent_fault-requires : tie.Need-absent_fault-requires
+absent_fault-requires c κs = search rules
 
 returns-2 : tie.Need-returns-2
-returns-2 c = λ n. c.absent-fault.ensures (with_present n _) ∙ sym (fault_absent _ _ _ c.before.if2.true)
+returns-2 c = λ n. c.absent_fault.ensures (with_present n _) ∙ sym (fault_absent _ _ _ c.before.if2.true)
 
-present-fault-requires : tie.Need-present-fault-requires
-present-fault-requires c κs = search rules
+present_fault-requires : tie.Need-present_fault-requires
+present_fault-requires c κs = search rules
 
 returns-3 : tie.Need-returns-3
-returns-3 c = λ n. c.present-fault.ensures (with_pubs n _) ∙ sym (fault_present _ _ _ (omega arith))
+returns-3 c = λ n. c.present_fault.ensures (with_pubs n _) ∙ sym (fault_present _ _ _ (omega arith))
 
-pub fault-spec : {M : Type 1} → statement M
-fault-spec =
-    tie.close (tie.spec returns absent-fault-requires returns-2 present-fault-requires returns-3)
+pub fault_spec : {M : Type 1} → statement M
+fault_spec =
+    tie.close (tie.spec returns absent_fault-requires returns-2 present_fault-requires returns-3)

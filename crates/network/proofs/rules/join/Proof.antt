@@ -21,26 +21,26 @@ loop-holds c = joins_none _ _ _ (search rules)
 lowest32-requires : tie.Need-lowest32-requires invariant-loop decreases-loop
 lowest32-requires c κs = search rules
 
-cast_t : tie.Need-overflow-cast-t invariant-loop decreases-loop
+cast_t : tie.Need-overflow_cast-t invariant-loop decreases-loop
 cast_t c = search rules
 
-mul-with32 : tie.Need-overflow-mul-with32 invariant-loop decreases-loop
+mul-with32 : tie.Need-overflow_mul-with32 invariant-loop decreases-loop
 mul-with32 c = search rules
 
-element-copy-out-with32 : tie.Need-element-copy-out-with32 invariant-loop decreases-loop
-element-copy-out-with32 c = search rules
+element_copy_out-with32 : tie.Need-element_copy_out-with32 invariant-loop decreases-loop
+element_copy_out-with32 c = search rules
 
-cast-with32 : tie.Need-overflow-cast-with32 invariant-loop decreases-loop
+cast-with32 : tie.Need-overflow_cast-with32 invariant-loop decreases-loop
 cast-with32 c = search rules
 
 with32-requires : tie.Need-with32-requires invariant-loop decreases-loop
 with32-requires c κs = search rules
 
-mul-to : tie.Need-overflow-mul-to invariant-loop decreases-loop
+mul-to : tie.Need-overflow_mul-to invariant-loop decreases-loop
 mul-to c = search rules
 
-element-write-to : tie.Need-element-write-to invariant-loop decreases-loop
-element-write-to c = search rules
+element_write-to : tie.Need-element_write-to invariant-loop decreases-loop
+element_write-to c = search rules
 
 rest32-requires : tie.Need-rest32-requires invariant-loop decreases-loop
 rest32-requires c κs = search rules
@@ -55,8 +55,8 @@ loop-again c =
 returns : tie.Need-returns invariant-loop decreases-loop
 returns c = joins_all c.before.loop.invariant (omega arith)
 
-pub join-spec : {M : Type 1} → statement M
-join-spec =
+pub join_spec : {M : Type 1} → statement M
+join_spec =
     tie.close
     (tie.spec
     invariant-loop
@@ -65,11 +65,11 @@ join-spec =
     lowest32-requires
     cast_t
     mul-with32
-    element-copy-out-with32
+    element_copy_out-with32
     cast-with32
     with32-requires
     mul-to
-    element-write-to
+    element_write-to
     rest32-requires
     loop-less
     loop-again

@@ -33,16 +33,16 @@ loop-holds c = backs_none _ _ _ (search rules)
 lowest64-requires : tie.Need-lowest64-requires invariant-loop decreases-loop
 lowest64-requires c κs = search rules
 
-cast-has32 : tie.Need-overflow-cast-has32 invariant-loop decreases-loop
+cast-has32 : tie.Need-overflow_cast-has32 invariant-loop decreases-loop
 cast-has32 c = search rules
 
-mul-has32 : tie.Need-overflow-mul-has32 invariant-loop decreases-loop
+mul-has32 : tie.Need-overflow_mul-has32 invariant-loop decreases-loop
 mul-has32 c = search rules
 
-element-copy-out-has32 : tie.Need-element-copy-out-has32 invariant-loop decreases-loop
-element-copy-out-has32 c = small c
+element_copy_out-has32 : tie.Need-element_copy_out-has32 invariant-loop decreases-loop
+element_copy_out-has32 c = small c
 
-cast-has32-2 : tie.Need-overflow-cast-has32-2 invariant-loop decreases-loop
+cast-has32-2 : tie.Need-overflow_cast-has32-2 invariant-loop decreases-loop
 cast-has32-2 c = search rules
 
 has32-requires : tie.Need-has32-requires invariant-loop decreases-loop
@@ -66,8 +66,8 @@ loop-again c =
 returns-2 : tie.Need-returns-2 invariant-loop decreases-loop
 returns-2 c = backs_all c.before.loop.invariant (omega arith)
 
-pub list-back-spec : {M : Type 1} → statement M
-list-back-spec =
+pub list_back_spec : {M : Type 1} → statement M
+list_back_spec =
     tie.close
     (tie.spec
     invariant-loop
@@ -76,7 +76,7 @@ list-back-spec =
     lowest64-requires
     cast-has32
     mul-has32
-    element-copy-out-has32
+    element_copy_out-has32
     cast-has32-2
     has32-requires
     returns

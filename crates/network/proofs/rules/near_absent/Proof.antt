@@ -20,5 +20,5 @@ lowest32-requires c κs = search rules
 returns-2 : tie.Need-returns-2
 returns-2 c = c.lowest32.ensures.0 ∙ ap (lowest 32) c.before.before.minus32.ensures ∙ near_lowest _ _ (search rules)
 
-pub near-absent-spec : {M : Type 1} → statement M
-near-absent-spec = tie.close (tie.spec minus32-requires returns lowest32-requires returns-2)
+pub near_absent_spec : {M : Type 1} → statement M
+near_absent_spec = tie.close (tie.spec minus32-requires returns lowest32-requires returns-2)

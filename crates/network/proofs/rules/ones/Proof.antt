@@ -21,19 +21,19 @@ decreases-loop heads r₀ p₀ r p = 32 - p
 loop-holds : tie.Need-loop-init invariant-loop decreases-loop
 loop-holds c = (search rules, fill_none _)
 
-cast-if1 : tie.Need-overflow-cast-if1 invariant-loop decreases-loop
+cast-if1 : tie.Need-overflow_cast-if1 invariant-loop decreases-loop
 cast-if1 c = search rules
 
-mul-if1 : tie.Need-overflow-mul-if1 invariant-loop decreases-loop
+mul-if1 : tie.Need-overflow_mul-if1 invariant-loop decreases-loop
 mul-if1 c = search rules
 
-element-copy-out-if1 : tie.Need-element-copy-out-if1 invariant-loop decreases-loop
-element-copy-out-if1 c = search rules
+element_copy_out-if1 : tie.Need-element_copy_out-if1 invariant-loop decreases-loop
+element_copy_out-if1 c = search rules
 
 with32-requires : tie.Need-with32-requires invariant-loop decreases-loop
 with32-requires c κs = search rules
 
-add-p : tie.Need-overflow-add-p invariant-loop decreases-loop
+add-p : tie.Need-overflow_add-p invariant-loop decreases-loop
 add-p c = search rules
 
 loop-less : tie.Need-loop-smaller invariant-loop decreases-loop
@@ -52,8 +52,8 @@ loop-again c =
 returns : tie.Need-returns invariant-loop decreases-loop
 returns c = let e : c.before.loop.p ≡ 32 = omega arith in rw e at c.before.loop.invariant.1
 
-pub ones-spec : {M : Type 1} → statement M
-ones-spec =
+pub ones_spec : {M : Type 1} → statement M
+ones_spec =
     tie.close
     (tie.spec
     invariant-loop
@@ -61,7 +61,7 @@ ones-spec =
     loop-holds
     cast-if1
     mul-if1
-    element-copy-out-if1
+    element_copy_out-if1
     with32-requires
     add-p
     loop-less

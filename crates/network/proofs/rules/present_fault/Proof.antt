@@ -41,7 +41,7 @@ own n c = ap not (sym c.before.has32.ensures ∙ c.if1.false)
 
 near : (n : Network) (c : tie.Else2) → near_right (net n (start2 c)) (start2 c).args.p ≡ true
 unfolding near_right
-near n c = rule_kept (near_at (net n (start2 c)) (start2 c).args.p) (near_is (net n (start2 c)) (start2 c).args.p) c.before.near-absent.ensures c.if2.false
+near n c = rule_kept (near_at (net n (start2 c)) (start2 c).args.p) (near_is (net n (start2 c)) (start2 c).args.p) c.before.near_absent.ensures c.if2.false
 
 back : (n : Network) (c : tie.Else3) → back_right (net n (start3 c)) (start3 c).args.p ≡ true
 unfolding back_right
@@ -50,16 +50,16 @@ back n c = rule_kept (back_at (net n (start3 c)) (start3 c).args.p) (back_is (ne
 known : (n : Network) (c : tie.Else4) → known_right (net n (start4 c)) (start4 c).args.p ≡ true
 known n c = sym (same_is (net n (start4 c)) (start4 c).args.p (start4 c).requires.1) ∙ sym c.before.row_same.ensures ∙ not_no _ c.if4.false
 
-cast-i : tie.Need-overflow-cast-i
+cast-i : tie.Need-overflow_cast-i
 cast-i c = search rules
 
-mul-listed : tie.Need-overflow-mul-listed
+mul-listed : tie.Need-overflow_mul-listed
 mul-listed c = search rules
 
-element-copy-out-listed : tie.Need-element-copy-out-listed
-element-copy-out-listed c = search rules
+element_copy_out-listed : tie.Need-element_copy_out-listed
+element_copy_out-listed c = search rules
 
-cast-has32 : tie.Need-overflow-cast-has32
+cast-has32 : tie.Need-overflow_cast-has32
 cast-has32 c = search rules
 
 has32-requires : tie.Need-has32-requires
@@ -69,17 +69,17 @@ returns : tie.Need-returns
 unfolding own_right
 returns c = λ n. fault_22 _ _ (ap not (sym c.before.has32.ensures ∙ c.if1.true))
 
-near-absent-requires : tie.Need-near-absent-requires
-near-absent-requires c κs = search rules
+near_absent-requires : tie.Need-near_absent-requires
+near_absent-requires c κs = search rules
 
 returns-2 : tie.Need-returns-2
 unfolding near_right
 returns-2 c =
     let e1 = c.before.before in
-    λ n. fault_23 _ _ (own n e1) (rule_broken (near_at (net n (start1 e1)) (start1 e1).args.p) (near_is (net n (start1 e1)) (start1 e1).args.p) c.before.near-absent.ensures c.if2.true)
+    λ n. fault_23 _ _ (own n e1) (rule_broken (near_at (net n (start1 e1)) (start1 e1).args.p) (near_is (net n (start1 e1)) (start1 e1).args.p) c.before.near_absent.ensures c.if2.true)
 
-list-back-requires : tie.Need-list-back-requires
-list-back-requires c κs = search rules
+list_back-requires : tie.Need-list_back-requires
+list_back-requires c κs = search rules
 
 returns-3 : tie.Need-returns-3
 unfolding back_right
@@ -88,8 +88,8 @@ returns-3 c =
     λ n. fault_24 _ _ (own n e2.before.before) (near n e2)
     (rule_broken (back_at (net n (start2 e2)) (start2 e2).args.p) (back_is (net n (start2 e2)) (start2 e2).args.p) c.before.List-back.ensures c.if3.true)
 
-row-same-requires : tie.Need-row-same-requires
-row-same-requires c κs = search rules
+row_same-requires : tie.Need-row_same-requires
+row_same-requires c κs = search rules
 
 returns-4 : tie.Need-returns-4
 returns-4 c =
@@ -98,17 +98,17 @@ returns-4 c =
     λ n. fault_25 _ _ (own n e2.before.before) (near n e2) (back n e3)
     (sym (same_is (net n (start3 e3)) (start3 e3).args.p (start3 e3).requires.1) ∙ sym c.before.row_same.ensures ∙ not_yes _ c.if4.true)
 
-mul-meet64 : tie.Need-overflow-mul-meet64
+mul-meet64 : tie.Need-overflow_mul-meet64
 mul-meet64 c = search rules
 
-element-copy-out-meet64 : tie.Need-element-copy-out-meet64
-element-copy-out-meet64 c = search rules
+element_copy_out-meet64 : tie.Need-element_copy_out-meet64
+element_copy_out-meet64 c = search rules
 
-mul-meet64-2 : tie.Need-overflow-mul-meet64-2
+mul-meet64-2 : tie.Need-overflow_mul-meet64-2
 mul-meet64-2 c = search rules
 
-element-copy-out-meet64-2 : tie.Need-element-copy-out-meet64-2
-element-copy-out-meet64-2 c = search rules
+element_copy_out-meet64-2 : tie.Need-element_copy_out-meet64-2
+element_copy_out-meet64-2 c = search rules
 
 meet64-requires : tie.Need-meet64-requires
 meet64-requires c κs = search rules
@@ -129,26 +129,26 @@ returns-6 c =
     let e2 = e3.before.before in
     λ n. fault_none _ _ (own n e2.before.before) (near n e2) (back n e3) (known n e4) (eq-eqb _ _ (sym c.before.meet64.ensures ∙ c.if5.false))
 
-pub present-fault-spec : {M : Type 1} → statement M
-present-fault-spec =
+pub present_fault_spec : {M : Type 1} → statement M
+present_fault_spec =
     tie.close
     (tie.spec
     cast-i
     mul-listed
-    element-copy-out-listed
+    element_copy_out-listed
     cast-has32
     has32-requires
     returns
-    near-absent-requires
+    near_absent-requires
     returns-2
-    list-back-requires
+    list_back-requires
     returns-3
-    row-same-requires
+    row_same-requires
     returns-4
     mul-meet64
-    element-copy-out-meet64
+    element_copy_out-meet64
     mul-meet64-2
-    element-copy-out-meet64-2
+    element_copy_out-meet64-2
     meet64-requires
     returns-5
     returns-6)

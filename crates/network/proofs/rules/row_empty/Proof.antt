@@ -20,25 +20,25 @@ invariant-loop known base same₀ t₀ same t = (t ≤ 32) × (same ≡ all t (�
 abbrev decreases-loop : tie.decreases-loop
 decreases-loop known base same₀ t₀ same t = 32 - t
 
-cast-base : tie.Need-overflow-cast-base invariant-loop decreases-loop
+cast-base : tie.Need-overflow_cast-base invariant-loop decreases-loop
 cast-base c = search rules
 
-mul-base : tie.Need-overflow-mul-base invariant-loop decreases-loop
+mul-base : tie.Need-overflow_mul-base invariant-loop decreases-loop
 mul-base c = search rules
 
 loop-holds : tie.Need-loop-init invariant-loop decreases-loop
 loop-holds c = (search rules, all_start _)
 
-add-if1 : tie.Need-overflow-add-if1 invariant-loop decreases-loop
+add-if1 : tie.Need-overflow_add-if1 invariant-loop decreases-loop
 add-if1 c = search rules
 
-mul-if1 : tie.Need-overflow-mul-if1 invariant-loop decreases-loop
+mul-if1 : tie.Need-overflow_mul-if1 invariant-loop decreases-loop
 mul-if1 c = search rules
 
-element-copy-out-if1 : tie.Need-element-copy-out-if1 invariant-loop decreases-loop
-element-copy-out-if1 c = search rules
+element_copy_out-if1 : tie.Need-element_copy_out-if1 invariant-loop decreases-loop
+element_copy_out-if1 c = search rules
 
-add-t : tie.Need-overflow-add-t invariant-loop decreases-loop
+add-t : tie.Need-overflow_add-t invariant-loop decreases-loop
 add-t c = search rules
 
 loop-less : tie.Need-loop-smaller invariant-loop decreases-loop
@@ -58,8 +58,8 @@ returns : tie.Need-returns invariant-loop decreases-loop
 unfolding row_empty
 returns c = let e : c.before.loop.t ≡ 32 = omega arith in rw e at c.before.loop.invariant.1
 
-pub row-empty-spec : {M : Type 1} → statement M
-row-empty-spec =
+pub row_empty_spec : {M : Type 1} → statement M
+row_empty_spec =
     tie.close
     (tie.spec
     invariant-loop
@@ -69,7 +69,7 @@ row-empty-spec =
     loop-holds
     add-if1
     mul-if1
-    element-copy-out-if1
+    element_copy_out-if1
     add-t
     loop-less
     loop-again

@@ -22,8 +22,8 @@ decreases-loop known subscribers listed p t₀ t = 32 - t
 abbrev spotted : tie.After-meet32 invariant-loop decreases-loop → tie.After-spot invariant-loop decreases-loop
 spotted c = c.before.before.before
 
-row-same-requires : tie.Need-row-same-requires invariant-loop decreases-loop
-row-same-requires c κs = search rules
+row_same-requires : tie.Need-row_same-requires invariant-loop decreases-loop
+row_same-requires c κs = search rules
 
 returns : tie.Need-returns invariant-loop decreases-loop
 unfolding row_known
@@ -35,25 +35,25 @@ loop-holds c = (search rules, lowest_of_start _)
 spot-requires : tie.Need-spot-requires invariant-loop decreases-loop
 spot-requires c κs = search rules
 
-mul-if2 : tie.Need-overflow-mul-if2 invariant-loop decreases-loop
+mul-if2 : tie.Need-overflow_mul-if2 invariant-loop decreases-loop
 mul-if2 c = search rules
 
-element-copy-out-if2 : tie.Need-element-copy-out-if2 invariant-loop decreases-loop
-element-copy-out-if2 c = search rules
+element_copy_out-if2 : tie.Need-element_copy_out-if2 invariant-loop decreases-loop
+element_copy_out-if2 c = search rules
 
-cast-meet32 : tie.Need-overflow-cast-meet32 invariant-loop decreases-loop
+cast-meet32 : tie.Need-overflow_cast-meet32 invariant-loop decreases-loop
 cast-meet32 c = search rules
 
-mul-meet32 : tie.Need-overflow-mul-meet32 invariant-loop decreases-loop
+mul-meet32 : tie.Need-overflow_mul-meet32 invariant-loop decreases-loop
 mul-meet32 c = search rules
 
-element-copy-out-meet32 : tie.Need-element-copy-out-meet32 invariant-loop decreases-loop
-element-copy-out-meet32 c = search rules
+element_copy_out-meet32 : tie.Need-element_copy_out-meet32 invariant-loop decreases-loop
+element_copy_out-meet32 c = search rules
 
 meet32-requires : tie.Need-meet32-requires invariant-loop decreases-loop
 meet32-requires c κs = search rules
 
-cast-result : tie.Need-overflow-cast-result invariant-loop decreases-loop
+cast-result : tie.Need-overflow_cast-result invariant-loop decreases-loop
 cast-result c = search rules
 
 returns-2 : tie.Need-returns-2 invariant-loop decreases-loop
@@ -65,7 +65,7 @@ returns-2 c =
     let l = k.loop in
     lowest_of_found 32 l.t _ l.inv.1 (search rules) (ap not (sym (known_at_lem a.known.now a.subscribers.now a.listed a.p l.t s.spot.ensures c.before.meet32.ensures) ∙ ne_eqb _ _ c.if2.true))
 
-add-t : tie.Need-overflow-add-t invariant-loop decreases-loop
+add-t : tie.Need-overflow_add-t invariant-loop decreases-loop
 add-t c = search rules
 
 loop-less : tie.Need-loop-smaller invariant-loop decreases-loop
@@ -83,21 +83,21 @@ returns-3 : tie.Need-returns-3 invariant-loop decreases-loop
 unfolding row_known
 returns-3 c = let e : c.before.loop.t ≡ 32 = omega arith in rw e at c.before.loop.invariant.1
 
-pub row-known-spec : {M : Type 1} → statement M
-row-known-spec =
+pub row_known_spec : {M : Type 1} → statement M
+row_known_spec =
     tie.close
     (tie.spec
     invariant-loop
     decreases-loop
-    row-same-requires
+    row_same-requires
     returns
     loop-holds
     spot-requires
     mul-if2
-    element-copy-out-if2
+    element_copy_out-if2
     cast-meet32
     mul-meet32
-    element-copy-out-meet32
+    element_copy_out-meet32
     meet32-requires
     cast-result
     returns-2

@@ -24,34 +24,34 @@ decreases-loop known subscribers listed base same₀ t₀ same t = 32 - t
 abbrev inside : tie.After-meet32 invariant-loop decreases-loop → tie.In-loop invariant-loop decreases-loop
 inside c = c.before.before.before
 
-cast-base : tie.Need-overflow-cast-base invariant-loop decreases-loop
+cast-base : tie.Need-overflow_cast-base invariant-loop decreases-loop
 cast-base c = search rules
 
-mul-base : tie.Need-overflow-mul-base invariant-loop decreases-loop
+mul-base : tie.Need-overflow_mul-base invariant-loop decreases-loop
 mul-base c = search rules
 
 loop-holds : tie.Need-loop-init invariant-loop decreases-loop
 loop-holds c = (search rules, all_start _)
 
-add-if1 : tie.Need-overflow-add-if1 invariant-loop decreases-loop
+add-if1 : tie.Need-overflow_add-if1 invariant-loop decreases-loop
 add-if1 c = search rules
 
-mul-if1 : tie.Need-overflow-mul-if1 invariant-loop decreases-loop
+mul-if1 : tie.Need-overflow_mul-if1 invariant-loop decreases-loop
 mul-if1 c = search rules
 
-element-copy-out-if1 : tie.Need-element-copy-out-if1 invariant-loop decreases-loop
-element-copy-out-if1 c = search rules
+element_copy_out-if1 : tie.Need-element_copy_out-if1 invariant-loop decreases-loop
+element_copy_out-if1 c = search rules
 
-mul-meet32 : tie.Need-overflow-mul-meet32 invariant-loop decreases-loop
+mul-meet32 : tie.Need-overflow_mul-meet32 invariant-loop decreases-loop
 mul-meet32 c = search rules
 
-element-copy-out-meet32 : tie.Need-element-copy-out-meet32 invariant-loop decreases-loop
-element-copy-out-meet32 c = search rules
+element_copy_out-meet32 : tie.Need-element_copy_out-meet32 invariant-loop decreases-loop
+element_copy_out-meet32 c = search rules
 
 meet32-requires : tie.Need-meet32-requires invariant-loop decreases-loop
 meet32-requires c κs = search rules
 
-add-t : tie.Need-overflow-add-t invariant-loop decreases-loop
+add-t : tie.Need-overflow_add-t invariant-loop decreases-loop
 add-t c = search rules
 
 loop-less : tie.Need-loop-smaller invariant-loop decreases-loop
@@ -71,8 +71,8 @@ loop-again c =
 returns : tie.Need-returns invariant-loop decreases-loop
 returns c = let e : c.before.loop.t ≡ 32 = omega arith in rw e at c.before.loop.invariant.1
 
-pub row-same-spec : {M : Type 1} → statement M
-row-same-spec =
+pub row_same_spec : {M : Type 1} → statement M
+row_same_spec =
     tie.close
     (tie.spec
     invariant-loop
@@ -82,9 +82,9 @@ row-same-spec =
     loop-holds
     add-if1
     mul-if1
-    element-copy-out-if1
+    element_copy_out-if1
     mul-meet32
-    element-copy-out-meet32
+    element_copy_out-meet32
     meet32-requires
     add-t
     loop-less

@@ -22,19 +22,19 @@ head c = c.before.before.before
 loop-holds : tie.Need-loop-init invariant-loop decreases-loop
 loop-holds c = (search rules, subscribers_none c.args.subs.now)
 
-cast-join : tie.Need-overflow-cast-join invariant-loop decreases-loop
+cast-join : tie.Need-overflow_cast-join invariant-loop decreases-loop
 cast-join c = search rules
 
-mul-join : tie.Need-overflow-mul-join invariant-loop decreases-loop
+mul-join : tie.Need-overflow_mul-join invariant-loop decreases-loop
 mul-join c = search rules
 
-element-copy-out-join : tie.Need-element-copy-out-join invariant-loop decreases-loop
-element-copy-out-join c = search rules
+element_copy_out-join : tie.Need-element_copy_out-join invariant-loop decreases-loop
+element_copy_out-join c = search rules
 
 join-requires : tie.Need-join-requires invariant-loop decreases-loop
 join-requires c κs = search rules
 
-add-q : tie.Need-overflow-add-q invariant-loop decreases-loop
+add-q : tie.Need-overflow_add-q invariant-loop decreases-loop
 add-q c = search rules
 
 loop-less : tie.Need-loop-smaller invariant-loop decreases-loop
@@ -49,8 +49,8 @@ returns : tie.Need-returns invariant-loop decreases-loop
 unfolding subscribers_of
 returns c = let e : c.before.loop.q ≡ 32 = omega arith in rw e at c.before.loop.invariant.1
 
-pub subscribers-spec : {M : Type 1} → statement M
-subscribers-spec =
+pub subscribers_spec : {M : Type 1} → statement M
+subscribers_spec =
     tie.close
     (tie.spec
     invariant-loop
@@ -58,7 +58,7 @@ subscribers-spec =
     loop-holds
     cast-join
     mul-join
-    element-copy-out-join
+    element_copy_out-join
     join-requires
     add-q
     loop-less

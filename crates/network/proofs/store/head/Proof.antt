@@ -6,7 +6,7 @@ use borrow.Author.Rules.{rules}
 use Rattle.network.proofs.store.head.Statement.{statement}
 use Rattle.network.proofs.store.head.Tie as tie
 
-cast-has32 : tie.Need-overflow-cast-has32
+cast-has32 : tie.Need-overflow_cast-has32
 cast-has32 c = search rules
 
 has32-requires : tie.Need-has32-requires

@@ -43,14 +43,14 @@ loop-holds c = visiting_none 32 _ _ _ (search rules)
 lowest32-requires : tie.Need-lowest32-requires invariant-loop decreases-loop
 lowest32-requires c κs = search rules
 
-cast-r : tie.Need-overflow-cast-r invariant-loop decreases-loop
+cast-r : tie.Need-overflow_cast-r invariant-loop decreases-loop
 cast-r c = search rules
 
-mul-r : tie.Need-overflow-mul-r invariant-loop decreases-loop
+mul-r : tie.Need-overflow_mul-r invariant-loop decreases-loop
 mul-r c = search rules
 
-array-write-r : tie.Need-array-write-r invariant-loop decreases-loop
-array-write-r c = search rules
+array_write-r : tie.Need-array_write-r invariant-loop decreases-loop
+array_write-r c = search rules
 
 rest32-requires : tie.Need-rest32-requires invariant-loop decreases-loop
 rest32-requires c κs = search rules
@@ -65,8 +65,8 @@ loop-again c =
 returns : tie.Need-returns invariant-loop decreases-loop
 returns c = visiting_done c.before.loop.invariant c.loop-test.false ∙ marked _ (search rules)
 
-pub heads-spec : {M : Type 1} → statement M
-heads-spec =
+pub heads_spec : {M : Type 1} → statement M
+heads_spec =
     tie.close
     (tie.spec
     invariant-loop
@@ -75,7 +75,7 @@ heads-spec =
     lowest32-requires
     cast-r
     mul-r
-    array-write-r
+    array_write-r
     rest32-requires
     loop-less
     loop-again

@@ -16,35 +16,35 @@ invariant-loop state₀ row i t₀ state t = (t ≤ 32) × ((length state ≡ 51
 abbrev decreases-loop : tie.decreases-loop
 decreases-loop state₀ row i t₀ state t = 32 - t
 
-cast-i : tie.Need-overflow-cast-i invariant-loop decreases-loop
+cast-i : tie.Need-overflow_cast-i invariant-loop decreases-loop
 cast-i c = search rules
 
 loop-holds : tie.Need-loop-init invariant-loop decreases-loop
 unfolding put_row
 loop-holds c = (search rules, (search rules, refl))
 
-mul-put4 : tie.Need-overflow-mul-put4 invariant-loop decreases-loop
+mul-put4 : tie.Need-overflow_mul-put4 invariant-loop decreases-loop
 mul-put4 c = search rules
 
-add-put4 : tie.Need-overflow-add-put4 invariant-loop decreases-loop
+add-put4 : tie.Need-overflow_add-put4 invariant-loop decreases-loop
 add-put4 c = search rules
 
-mul-put4-2 : tie.Need-overflow-mul-put4-2 invariant-loop decreases-loop
+mul-put4-2 : tie.Need-overflow_mul-put4-2 invariant-loop decreases-loop
 mul-put4-2 c = search rules
 
-add-put4-2 : tie.Need-overflow-add-put4-2 invariant-loop decreases-loop
+add-put4-2 : tie.Need-overflow_add-put4-2 invariant-loop decreases-loop
 add-put4-2 c = search rules
 
-mul-put4-3 : tie.Need-overflow-mul-put4-3 invariant-loop decreases-loop
+mul-put4-3 : tie.Need-overflow_mul-put4-3 invariant-loop decreases-loop
 mul-put4-3 c = search rules
 
-array-read-put4 : tie.Need-array-read-put4 invariant-loop decreases-loop
-array-read-put4 c = search rules
+array_read-put4 : tie.Need-array_read-put4 invariant-loop decreases-loop
+array_read-put4 c = search rules
 
 put4-requires : tie.Need-put4-requires invariant-loop decreases-loop
 put4-requires c κs = search rules
 
-add-t : tie.Need-overflow-add-t invariant-loop decreases-loop
+add-t : tie.Need-overflow_add-t invariant-loop decreases-loop
 add-t c = search rules
 
 loop-less : tie.Need-loop-smaller invariant-loop decreases-loop
@@ -56,14 +56,14 @@ loop-again c =
     let l = w.before.before.before.loop in
     (search rules, (ap length w.put4.ensures ∙ simp length_put_le l.invariant.1.0, w.put4.ensures ∙ put_row_more l.t _ _ _ l.invariant.1.1))
 
-same_length : tie.Need-same-length invariant-loop decreases-loop
+same_length : tie.Need-same_length invariant-loop decreases-loop
 same_length c = search rules
 
 returns : tie.Need-returns invariant-loop decreases-loop
 returns c = let e : c.before.loop.t ≡ 32 = omega arith in rw e at c.before.loop.invariant.1.1
 
-pub row-spec : {M : Type 1} → statement M
-row-spec =
+pub row_spec : {M : Type 1} → statement M
+row_spec =
     tie.close
     (tie.spec
     invariant-loop
@@ -75,7 +75,7 @@ row-spec =
     mul-put4-2
     add-put4-2
     mul-put4-3
-    array-read-put4
+    array_read-put4
     put4-requires
     add-t
     loop-less

@@ -15,31 +15,31 @@ invariant-loop known base r₀ t₀ r t = (t ≤ 32) × Filled 32 (λ (u : ℕ).
 abbrev decreases-loop : tie.decreases-loop
 decreases-loop known base r₀ t₀ r t = 32 - t
 
-cast-base : tie.Need-overflow-cast-base invariant-loop decreases-loop
+cast-base : tie.Need-overflow_cast-base invariant-loop decreases-loop
 cast-base c = search rules
 
-mul-base : tie.Need-overflow-mul-base invariant-loop decreases-loop
+mul-base : tie.Need-overflow_mul-base invariant-loop decreases-loop
 mul-base c = search rules
 
 loop-holds : tie.Need-loop-init invariant-loop decreases-loop
 loop-holds c = (search rules, filled_none 32 _ _ (length-replicate {A = ℕ} 32 0))
 
-add_r : tie.Need-overflow-add-r invariant-loop decreases-loop
+add_r : tie.Need-overflow_add-r invariant-loop decreases-loop
 add_r c = search rules
 
-mul-r : tie.Need-overflow-mul-r invariant-loop decreases-loop
+mul-r : tie.Need-overflow_mul-r invariant-loop decreases-loop
 mul-r c = search rules
 
-element-copy-out-r : tie.Need-element-copy-out-r invariant-loop decreases-loop
-element-copy-out-r c = search rules
+element_copy_out-r : tie.Need-element_copy_out-r invariant-loop decreases-loop
+element_copy_out-r c = search rules
 
-mul-r-2 : tie.Need-overflow-mul-r-2 invariant-loop decreases-loop
+mul-r-2 : tie.Need-overflow_mul-r-2 invariant-loop decreases-loop
 mul-r-2 c = search rules
 
-array-write-r : tie.Need-array-write-r invariant-loop decreases-loop
-array-write-r c = search rules
+array_write-r : tie.Need-array_write-r invariant-loop decreases-loop
+array_write-r c = search rules
 
-add-t : tie.Need-overflow-add-t invariant-loop decreases-loop
+add-t : tie.Need-overflow_add-t invariant-loop decreases-loop
 add-t c = search rules
 
 loop-less : tie.Need-loop-smaller invariant-loop decreases-loop
@@ -51,8 +51,8 @@ loop-again c = (search rules, filled_more _ c.before.before.loop.invariant.1 (se
 returns : tie.Need-returns invariant-loop decreases-loop
 returns c = let e : c.before.loop.t ≡ 32 = omega arith in filled_all (rw e at c.before.loop.invariant.1)
 
-pub row-of-spec : {M : Type 1} → statement M
-row-of-spec =
+pub row_of_spec : {M : Type 1} → statement M
+row_of_spec =
     tie.close
     (tie.spec
     invariant-loop
@@ -62,9 +62,9 @@ row-of-spec =
     loop-holds
     add_r
     mul-r
-    element-copy-out-r
+    element_copy_out-r
     mul-r-2
-    array-write-r
+    array_write-r
     add-t
     loop-less
     loop-again

@@ -28,14 +28,14 @@ subscribers-requires c κs = search rules
 loop-holds : tie.Need-loop-init invariant-loop decreases-loop
 loop-holds c = (search rules, λ n q l. absurd (omega arith))
 
-cast-i : tie.Need-overflow-cast-i invariant-loop decreases-loop
+cast-i : tie.Need-overflow_cast-i invariant-loop decreases-loop
 cast-i c = search rules
 
-mul-fault : tie.Need-overflow-mul-fault invariant-loop decreases-loop
+mul-fault : tie.Need-overflow_mul-fault invariant-loop decreases-loop
 mul-fault c = search rules
 
-element-copy-out-fault : tie.Need-element-copy-out-fault invariant-loop decreases-loop
-element-copy-out-fault c = search rules
+element_copy_out-fault : tie.Need-element_copy_out-fault invariant-loop decreases-loop
+element_copy_out-fault c = search rules
 
 fault-requires : tie.Need-fault-requires invariant-loop decreases-loop
 fault-requires c κs = search rules
@@ -49,7 +49,7 @@ returns c =
     let l = (inside f).before.loop in
     λ n. verdict_one _ _ l.p (search rules) (l.inv.1 n) (f.fault.ensures n) c.before.before.if1.true (c.detail.ensures (with_pubs (with_pending (with_seen n _) _) _))
 
-add-p : tie.Need-overflow-add-p invariant-loop decreases-loop
+add-p : tie.Need-overflow_add-p invariant-loop decreases-loop
 add-p c = search rules
 
 loop-less : tie.Need-loop-smaller invariant-loop decreases-loop
@@ -63,8 +63,8 @@ loop-again c =
 returns-2 : tie.Need-returns-2 invariant-loop decreases-loop
 returns-2 c = λ n. verdict_none _ _ λ p l. c.before.loop.invariant.1 n p (omega arith)
 
-pub verdict-spec : {M : Type 1} → statement M
-verdict-spec =
+pub verdict_spec : {M : Type 1} → statement M
+verdict_spec =
     tie.close
     (tie.spec
     invariant-loop
@@ -73,7 +73,7 @@ verdict-spec =
     loop-holds
     cast-i
     mul-fault
-    element-copy-out-fault
+    element_copy_out-fault
     fault-requires
     detail-requires
     returns

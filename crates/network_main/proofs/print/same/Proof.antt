@@ -18,16 +18,16 @@ returns c = tt
 loop-holds : tie.Need-loop-init invariant-loop decreases-loop
 loop-holds c = tt
 
-shared-slice-read-if2 : tie.Need-shared-slice-read-if2 invariant-loop decreases-loop
-shared-slice-read-if2 c = search rules
+shared_slice_read-if2 : tie.Need-shared_slice_read-if2 invariant-loop decreases-loop
+shared_slice_read-if2 c = search rules
 
-shared-slice-read-if2-2 : tie.Need-shared-slice-read-if2-2 invariant-loop decreases-loop
-shared-slice-read-if2-2 c = omega arith
+shared_slice_read-if2-2 : tie.Need-shared_slice_read-if2-2 invariant-loop decreases-loop
+shared_slice_read-if2-2 c = omega arith
 
 returns-2 : tie.Need-returns-2 invariant-loop decreases-loop
 returns-2 c = tt
 
-add-i : tie.Need-overflow-add-i invariant-loop decreases-loop
+add-i : tie.Need-overflow_add-i invariant-loop decreases-loop
 add-i c = omega arith
 
 loop-less : tie.Need-loop-smaller invariant-loop decreases-loop
@@ -47,8 +47,8 @@ same_spec =
     decreases-loop
     returns
     loop-holds
-    shared-slice-read-if2
-    shared-slice-read-if2-2
+    shared_slice_read-if2
+    shared_slice_read-if2-2
     returns-2
     add-i
     loop-less

@@ -24,29 +24,29 @@ number_below t = and 1 number-kinds.ps (falls 1 number-kinds.ps ◌<◌ μ_numbe
 -- from where the last of two digits or more is written: the test's second branch
 abbrev longer :
     (t : ℕ) →
-    number-lts.After-slice-known2 (number_below t, number.Post) (number_at t) number.Post →
+    number-lts.After-slice_known2 (number_below t, number.Post) (number_at t) number.Post →
     number-lts.Else1 (number_below t, number.Post) (number_at t) number.Post
 longer t c = c.before.before.before.before
 
 number-cast-out :
-    (t : ℕ) → number-lts.Need-overflow-cast-out (number_below t, number.Post) (number_at t) number.Post
+    (t : ℕ) → number-lts.Need-overflow_cast-out (number_below t, number.Post) (number_at t) number.Post
 number-cast-out t c = search rules
 
 number-add-out :
-    (t : ℕ) → number-lts.Need-overflow-add-out (number_below t, number.Post) (number_at t) number.Post
+    (t : ℕ) → number-lts.Need-overflow_add-out (number_below t, number.Post) (number_at t) number.Post
 number-add-out t c = search rules
 
 number-slice-write-out :
     (t : ℕ) →
-    number-lts.Need-slice-write-out (number_below t, number.Post) (number_at t) number.Post
+    number-lts.Need-slice_write-out (number_below t, number.Post) (number_at t) number.Post
 number-slice-write-out t c = omega (arith, length_small _ c.if1.true)
 
 number-add-result :
-    (t : ℕ) → number-lts.Need-overflow-add-result (number_below t, number.Post) (number_at t) number.Post
+    (t : ℕ) → number-lts.Need-overflow_add-result (number_below t, number.Post) (number_at t) number.Post
 number-add-result t c = omega (arith, length_small _ c.if1.true)
 
 number-same-length :
-    (t : ℕ) → number-lts.Need-same-length (number_below t, number.Post) (number_at t) number.Post
+    (t : ℕ) → number-lts.Need-same_length (number_below t, number.Post) (number_at t) number.Post
 number-same-length t c = search rules
 
 number-returns :
@@ -59,34 +59,34 @@ number-number-requires :
 number-number-requires t c κs = omega (arith, length_more _ c.before.if1.false)
 
 number-cast-out-2 :
-    (t : ℕ) → number-lts.Need-overflow-cast-out-2 (number_below t, number.Post) (number_at t) number.Post
+    (t : ℕ) → number-lts.Need-overflow_cast-out-2 (number_below t, number.Post) (number_at t) number.Post
 number-cast-out-2 t c = search rules
 
 number-add-out-2 :
-    (t : ℕ) → number-lts.Need-overflow-add-out-2 (number_below t, number.Post) (number_at t) number.Post
+    (t : ℕ) → number-lts.Need-overflow_add-out-2 (number_below t, number.Post) (number_at t) number.Post
 number-add-out-2 t c = search rules
 
-number_slice_write_out_2 : (t : ℕ) → number-lts.Need-slice-write-out-2 (
+number_slice_write_out_2 : (t : ℕ) → number-lts.Need-slice_write-out-2 (
   number_below t,
   number.Post,
 ) (number_at t) number.Post
 number_slice_write_out_2 t c = omega (arith, length_more _ (longer t c).if1.false)
 
 number-add-result-2 :
-    (t : ℕ) → number-lts.Need-overflow-add-result-2 (number_below t, number.Post) (number_at t) number.Post
+    (t : ℕ) → number-lts.Need-overflow_add-result-2 (number_below t, number.Post) (number_at t) number.Post
 number-add-result-2 t c = omega (arith, length_more _ (longer t c).if1.false)
 
 number-same-length-2 :
     (t : ℕ) →
-    number-lts.Need-same-length-2 (number_below t, number.Post) (number_at t) number.Post
+    number-lts.Need-same_length-2 (number_below t, number.Post) (number_at t) number.Post
 number-same-length-2 t c = search rules
 
 number-returns-2 :
     (t : ℕ) → number-lts.Need-returns-2 (number_below t, number.Post) (number_at t) number.Post
 number-returns-2 t c = wrote_tenth _ (longer t c).if1.false c.before.before.number.ensures
 
-pub +number-spec : {M : Type 1} → statement M
-+number-spec =
+pub +number_spec : {M : Type 1} → statement M
++number_spec =
     close
     μ_number
     λ t. number-lts.spec

@@ -17,16 +17,16 @@ decreases-loop out₀ at s i₀ out i = length s - i
 loop-holds : tie.Need-loop-init invariant-loop decreases-loop
 loop-holds c = (search rules, wrote_none_yet _ _)
 
-shared-slice-read-out : tie.Need-shared-slice-read-out invariant-loop decreases-loop
-shared-slice-read-out c = search rules
+shared_slice_read-out : tie.Need-shared_slice_read-out invariant-loop decreases-loop
+shared_slice_read-out c = search rules
 
-add-out : tie.Need-overflow-add-out invariant-loop decreases-loop
+add-out : tie.Need-overflow_add-out invariant-loop decreases-loop
 add-out c = search rules
 
-slice-write-out : tie.Need-slice-write-out invariant-loop decreases-loop
-slice-write-out c = search rules
+slice_write-out : tie.Need-slice_write-out invariant-loop decreases-loop
+slice_write-out c = search rules
 
-add-i : tie.Need-overflow-add-i invariant-loop decreases-loop
+add-i : tie.Need-overflow_add-i invariant-loop decreases-loop
 add-i c = search rules
 
 loop-less : tie.Need-loop-smaller invariant-loop decreases-loop
@@ -35,10 +35,10 @@ loop-less c = search rules
 loop-again : tie.Need-loop-preserved invariant-loop decreases-loop
 loop-again c = ((search rules, simp length-set (search rules)), wrote_next _ _ c.before.loop-test.true c.before.before.loop.invariant.1)
 
-add-result : tie.Need-overflow-add-result invariant-loop decreases-loop
+add-result : tie.Need-overflow_add-result invariant-loop decreases-loop
 add-result c = search rules
 
-same_length : tie.Need-same-length invariant-loop decreases-loop
+same_length : tie.Need-same_length invariant-loop decreases-loop
 same_length c = search rules
 
 returns : tie.Need-returns invariant-loop decreases-loop
@@ -51,9 +51,9 @@ copy_spec =
     invariant-loop
     decreases-loop
     loop-holds
-    shared-slice-read-out
+    shared_slice_read-out
     add-out
-    slice-write-out
+    slice_write-out
     add-i
     loop-less
     loop-again

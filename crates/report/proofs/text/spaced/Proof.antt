@@ -8,11 +8,11 @@ use Rattle.report.proofs.Write.{wrote_one, wrote_then}
 use Rattle.report.proofs.text.spaced.Statement.{statement}
 use Rattle.report.proofs.text.spaced.Tie as tie
 
-slice-write-out : tie.Need-slice-write-out
+slice_write-out : tie.Need-slice_write-out
 unfolding spaced
-slice-write-out c = search rules
+slice_write-out c = search rules
 
-add-number : tie.Need-overflow-add-number
+add-number : tie.Need-overflow_add-number
 unfolding spaced
 add-number c = search rules
 
@@ -20,12 +20,12 @@ number-requires : tie.Need-number-requires
 unfolding spaced
 number-requires c κs = simp length-set (omega arith)
 
-same_length : tie.Need-same-length
+same_length : tie.Need-same_length
 same_length c = c.before.before.number.auto.0 ∙ simp length-set
 
 returns : tie.Need-returns
 unfolding spaced
 returns c = wrote_then (wrote_one _ _ _) c.before.before.number.ensures
 
-pub spaced-spec : {M : Type 1} → statement M
-spaced-spec = tie.close (tie.spec slice-write-out add-number number-requires same_length returns)
+pub spaced_spec : {M : Type 1} → statement M
+spaced_spec = tie.close (tie.spec slice_write-out add-number number-requires same_length returns)

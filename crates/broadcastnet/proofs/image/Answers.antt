@@ -1,0 +1,7 @@
+-- `broadcastnet::image` meets its contract. Assumes nothing.
+use borrow.Author.Rules.{rules}
+use Rattle.broadcastnet.specs.laws.CommitLaws.{image_net_made}
+use Rattle.broadcastnet.proofs.image.Goals as goal
+
+pub returns : goal.returns
+returns c = image_net_made c.args.n c.underway.ensures c.settled-seen.ensures

@@ -1,0 +1,17 @@
+-- The invariants of `broadcastnet::settled`. Assumes nothing.
+use borrow.Author.Rules.{rules}
+use mathlib.Core.Path.{◌≡◌}
+use Prim.Native.Nat.{ℕ, ◌-◌, ◌≤◌}
+use native.Mathlib.Omega.{arith}
+use lib.ListN.{get_or, length-replicate}
+use Rattle.sets.specs.Set.{minus}
+use Rattle.lists.specs.Tab.{Filled}
+use Rattle.lists.specs.laws.Tab.{filled_none, filled_more}
+use Rattle.broadcastnet.specs.laws.CommitLaws.{without_filled}
+use Rattle.broadcastnet.proofs.settled.Given as goal
+
+abbrev pub invariant-loop-q : goal.invariant-loop-q
+invariant-loop-q l = (l.q ≤ 32) × Filled 32 (λ (i : ℕ). minus (get_or l.seen i 0) l.w) l.q l.r
+
+abbrev pub decreases-loop-q : goal.decreases-loop-q
+decreases-loop-q l = 32 - l.q

@@ -1,0 +1,14 @@
+-- The invariants of `broadcastnet::underway`. Assumes nothing.
+use borrow.Author.Rules.{rules}
+use mathlib.Core.Path.{◌≡◌, refl}
+use Prim.Native.Nat.{◌-◌, ◌≤◌}
+use native.Mathlib.Omega.{arith}
+use Rattle.broadcastnet.specs.Commit.{together}
+use Rattle.broadcastnet.specs.laws.CommitLaws.{together_more}
+use Rattle.broadcastnet.proofs.underway.Given as goal
+
+abbrev pub invariant-loop-p : goal.invariant-loop-p
+invariant-loop-p l = (l.p ≤ 32) × (l.w ≡ together l.p l.pending)
+
+abbrev pub decreases-loop-p : goal.decreases-loop-p
+decreases-loop-p l = 32 - l.p

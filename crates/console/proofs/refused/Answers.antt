@@ -1,0 +1,8 @@
+-- `console::refused` meets its contract. Assumes nothing.
+use borrow.Author.Rules.{rules}
+use Rattle.console.proofs.ConsoleLaws.{printed_report, refused_text_lem}
+use Rattle.console.proofs.refused.Goals as goal
+
+pub returns : goal.returns
+returns c =
+    printed_report c.report.ensures (refused_text_lem _ _ c.blank.ensures)

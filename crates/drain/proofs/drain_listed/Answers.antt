@@ -1,0 +1,44 @@
+-- `drain::drain_listed` meets its contract. The peers below p have had their turn, with the pairs that were pending when the round began. Assumes nothing.
+use mathlib.Core.Path.{◌≡◌, refl}
+use mathlib.Core.List.{List, []}
+use Prim.Native.Nat.{ℕ, ◌-◌, ◌≤◌}
+use native.Mathlib.Omega.{arith}
+use borrow.Author.Rules.{rules}
+use Rattle.network.specs.declared.Network.{Network}
+use Rattle.network.specs.laws.Network.{bare}
+use Rattle.floodnet.specs.View.{fwd}
+use Rattle.floodnet.specs.Lent.{with_messages}
+use Rattle.network.specs.Network.{table}
+use Rattle.drain.specs.laws.Turns.{Peers, peers_none, peers_more}
+use Rattle.drain.proofs.drain_listed.Goals as goal
+
+pub loop-p-init : goal.loop-p-init
+loop-p-init c = (omega arith, λ n os. peers_none _ _ _ _)
+
+pub overflow_sub-left : goal.overflow_sub-left
+overflow_sub-left c =
+    let v = c.loop-p.invariant.1 bare [] in
+    search rules
+
+pub drain_peer-made-requires : goal.drain_peer-made-requires
+drain_peer-made-requires c =
+    let given = c.requires in
+    (search rules, (given.0, (given.1.0, given.1.1 _ (search rules))))
+
+pub overflow_add-made : goal.overflow_add-made
+overflow_add-made c =
+    omega (
+      arith,
+      (peers_more _ _ _ _ _ (c.loop-p.invariant.1 bare []) refl (c.drain_peer-made.ensures.1 bare [])
+          c.drain_peer-made.ensures.0).within,
+    )
+
+pub loop-p-preserved : goal.loop-p-preserved
+loop-p-preserved c =
+    (omega arith, λ n os. peers_more _ _ _ _ _ (c.loop-p.invariant.1 n os) refl (c.drain_peer-made.ensures.1 n os) c.drain_peer-made.ensures.0)
+
+pub returns : goal.returns
+returns c =
+    let e : c.loop-p.p ≡ 32 = omega arith in
+    let v = rw e at c.loop-p.invariant.1 in
+    ((v bare []).count, λ n os. (v n os).state)

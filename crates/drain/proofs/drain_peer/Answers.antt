@@ -1,0 +1,53 @@
+-- `drain::drain_peer` meets its contract. The loop keeps what the pairs of `rest` still have to do. Assumes nothing.
+use mathlib.Core.Path.{◌≡◌}
+use mathlib.Core.Logic.{inl, inr}
+use mathlib.Core.List.{List, []}
+use Prim.Native.Nat.{ℕ, ◌-◌}
+use native.Mathlib.Omega.{arith}
+use borrow.Author.Rules.{rules}
+use Rattle.network.specs.declared.Network.{Network}
+use Rattle.network.specs.laws.Network.{bare}
+use Rattle.floodnet.specs.View.{fwd}
+use Rattle.floodnet.specs.Lent.{with_messages}
+use Rattle.network.specs.Network.{table}
+use Rattle.drain.specs.laws.Pairs.{Walk, walk_none, walk_more, walk_done}
+use Rattle.drain.proofs.AtOnceForwards.{all_at_once}
+use Rattle.drain.proofs.drain_peer.Goals as goal
+
+pub returns-then-todo-eq0 : goal.returns-then-todo-eq0
+returns-then-todo-eq0 c =
+    let a = c.args in (
+      (walk_done (fwd (table a.topics.now [])) bare a.p.0 _ a.left (walk_none _ _ _ _ _ (search rules)) (inl c.if-todo-eq0.true)).0,
+      λ n os. (walk_done _ _ a.p.0 _ a.left (walk_none _ _ _ _ _ (search rules)) (inl c.if-todo-eq0.true)).1,
+    )
+
+pub forward_set-requires : goal.forward_set-requires
+forward_set-requires c =
+    let given = c.pre in
+    (given.0, given.1.1)
+
+pub returns-then-all-left : goal.returns-then-all-left
+returns-then-all-left c =
+    all_at_once (search rules) c.how_many-all.ensures.0 c.if-all-left.taken c.forward_set.ensures
+
+pub loop-made-init : goal.loop-made-init
+loop-made-init c = λ n os. walk_none _ _ _ _ _ (search rules)
+
+pub returns-then-rest-eq0 : goal.returns-then-rest-eq0
+returns-then-rest-eq0 c =
+    ((walk_done _ _ _ _ _ (c.loop-made.invariant bare []) (inl c.if-rest-eq0.true)).0, λ n os. (walk_done _ _ _ _ _ (c.loop-made.invariant n os) (inl c.if-rest-eq0.true)).1)
+
+pub forward-requires : goal.forward-requires
+forward-requires c = (search rules, search rules, c.pre.1.0 _)
+
+pub loop-made-preserved : goal.loop-made-preserved
+unfolding fwd
+loop-made-preserved c =
+    λ n os. walk_more _ _ _ _ _ (c.loop-made.invariant n os) (search rules) (search rules)
+    c.lowest64.ensures.0 c.rest64-rest.ensures.0 (c.forward.ensures.1 n os)
+
+pub returns : goal.returns
+returns c =
+    let v = c.loop-made.invariant bare [] in
+    let e : c.loop-made.made ≡ c.args.left = omega arith in
+    ((walk_done _ _ _ _ _ v (inr e)).0, λ n os. (walk_done _ _ _ _ _ (c.loop-made.invariant n os) (inr e)).1)

@@ -1,0 +1,21 @@
+-- The invariants of `drain::waiting`. Assumes nothing.
+use mathlib.Core.Path.{◌≡◌, sym, ap₂, ◌∙◌}
+use Prim.Native.Nat.{ℕ, ◌+◌, ◌-◌, ◌*◌, ◌≤◌}
+use native.Mathlib.Omega.{arith}
+use borrow.Author.Rules.{rules}
+use lib.Dec.{eqb}
+use lib.ListN.{get_or}
+use Rattle.sets.specs.Any.{all}
+use Rattle.sets.specs.laws.Any.{all_start, all_more}
+use Rattle.sets.specs.Set.{has, count}
+use Rattle.sets.specs.Sums.{sum}
+use Rattle.sets.specs.laws.Sums.{sum_start, sum_more}
+use Rattle.drain.specs.Pairs.{waiting_of}
+use Rattle.drain.specs.laws.Pairs.{empty_more}
+use Rattle.drain.proofs.waiting.Given as goal
+
+abbrev pub invariant-loop-p : goal.invariant-loop-p
+invariant-loop-p l = (l.p ≤ 32) × (l.total ≡ sum l.p (λ (i : ℕ). count 64 (has (get_or l.pending i 0)))) × (l.total ≤ 64 * l.p) × (eqb l.total 0 ≡ all l.p (λ (i : ℕ). eqb (get_or l.pending i 0) 0))
+
+abbrev pub decreases-loop-p : goal.decreases-loop-p
+decreases-loop-p l = 32 - l.p

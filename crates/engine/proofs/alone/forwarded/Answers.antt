@@ -1,0 +1,6 @@
+-- `engine::alone::forwarded` meets its contract. Assumes nothing.
+use borrow.Author.Rules.{rules}
+use Rattle.engine.proofs.alone.forwarded.Goals as goal
+
+pub returns : goal.returns
+returns c = rw c.size32-deliveries.ensures.0

@@ -1,0 +1,9 @@
+-- `engine::alone::relay_check` meets its contract. Assumes nothing.
+use borrow.Author.Rules.{rules}
+use mathlib.Core.Path.{◌∙◌}
+use Rattle.engine.proofs.AloneLaws.{check_is}
+use Rattle.engine.proofs.Lent.{looked_is}
+use Rattle.engine.proofs.alone.relay_check.Goals as goal
+
+pub returns : goal.returns
+returns c = c.answer.ensures ∙ check_is _ (looked_is _ c.«open».ensures)

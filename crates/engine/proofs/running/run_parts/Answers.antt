@@ -1,0 +1,56 @@
+-- `engine::running::run_parts` meets its contract. The loop keeps `Going`: the rest of the run, from here, ends as the whole does. Assumes nothing.
+use borrow.Author.Rules.{rules}
+use Prim.Native.Nat.{◌-◌, ◌*◌, ◌/◌, ◌^◌, ◌≤◌, ◌<◌}
+use lib.ListN.{length}
+use native.Mathlib.Omega.{arith}
+use Rattle.sets.specs.Set.{size}
+use Rattle.sets.specs.laws.Sizes.{size_le}
+use Rattle.network.specs.declared.Network.{Network}
+use Rattle.network.specs.Network.{with_all, table}
+use Rattle.network.specs.laws.Network.{bare}
+use Rattle.events.specs.laws.ReadingLaws.{read_is}
+use Rattle.engine.specs.Run.{tally, zero_tally, run_from, run_all}
+use Rattle.engine.specs.laws.RunSound.{reads_fit}
+use Rattle.engine.proofs.RunLoop.{Going, going_start, going_room}
+use Rattle.engine.proofs.RunEnds.{runs_as}
+use Rattle.engine.proofs.RunTurns.{ran_stop, ran_on, ran_end}
+use Rattle.engine.proofs.running.run_parts.Goals as goal
+
+-- the event bytes are fewer than 2 ^ 63
+small : (h : tie.At-loop invariant-loop decreases-loop) → 32 * (length (start h).args.events.now / 16) < 2 ^ 64
+small h = omega (arith, (start h).well_formed.1.1.1.1.1.1.1.1.1.0.1)
+
+-- the receivers that a turn answers are a word of 32 bits, and so 32 at most
+few : (u : tie.After-turn invariant-loop decreases-loop) → size u.turn.result.receivers ≤ 32
+few u = size_le 32 _ u.turn.type_inv.1.1.1.1.0.1
+
+pub loop-place-init : goal.loop-place-init
+loop-place-init c = λ n. going_start _ _ _ _
+
+pub turn-turned-requires : goal.turn-turned-requires
+turn-turned-requires c =
+    (rw (read_is _ _ _ c.event_at.ensures) (reads_fit _ (λ i. (c.shared_slice_known-1.given i).fits) _), c.pre)
+
+pub returns-then-number-ne0 : goal.returns-then-number-ne0
+unfolding run_all
+returns-then-number-ne0 c =
+    λ n. runs_as c.answer.ensures (ran_stop _ _ _ (c.loop-place.invariant n) c.loop-place-test.true (read_is _ _ _ c.event_at.ensures) _ _ (c.turn-turned.ensures n) c.if-number-ne0.true)
+
+pub count_in-requires : goal.count_in-requires
+count_in-requires c =
+    going_room _ _ _ (c.loop-place.invariant bare) c.loop-place-test.taken (small c) _ (few c)
+
+pub overflow_add-place : goal.overflow_add-place
+overflow_add-place c =
+    record { fits = omega (arith, c.loop-place-test.taken, small c) }
+
+pub loop-place-smaller : goal.loop-place-smaller
+loop-place-smaller c = omega (arith, c.loop-place-test.taken)
+
+pub loop-place-preserved : goal.loop-place-preserved
+loop-place-preserved c =
+    λ n. ran_on _ _ _ (c.loop-place.invariant n) c.loop-place-test.taken (read_is _ _ _ c.event_at.ensures) _ _ (c.turn-turned.ensures n) c.if-number-ne0.left (few c) _ c.count_in.ensures
+
+pub returns : goal.returns
+unfolding run_all
+returns c = λ n. runs_as c.answer-2.ensures (ran_end _ _ _ (c.loop-place.invariant n) c.loop-place-test.false)

@@ -1,0 +1,7 @@
+use Rattle.events.specs.Writing.{put_fields}
+use borrow.Author.Rules.{rules}
+use Rattle.events.proofs.put_fields.Goals as goal
+
+pub returns : goal.returns
+unfolding put_fields
+returns c = cc

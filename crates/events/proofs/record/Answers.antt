@@ -1,0 +1,8 @@
+use mathlib.Core.Path.{◌∙◌}
+use Rattle.events.specs.Writing.{record_of}
+use borrow.Author.Rules.{rules}
+use Rattle.events.proofs.record.Goals as goal
+
+pub returns : goal.returns
+unfolding record_of
+returns c = c.put_fields_lem.ensures ∙ cc

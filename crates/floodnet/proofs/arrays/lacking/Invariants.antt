@@ -1,0 +1,15 @@
+-- The invariants of `floodnet::arrays::lacking`. Assumes nothing.
+use borrow.Author.Rules.{rules}
+use Prim.Native.Nat.{◌<◌}
+use Rattle.sets.specs.Set.{size}
+use Rattle.sets.specs.laws.Lowest.{least_narrow}
+use Rattle.sets.specs.laws.Sizes.{size_less}
+use Rattle.sets.specs.laws.Visits.{Visit, visit_none, visit_lt}
+use Rattle.floodnet.proofs.CodeArrays.{lacks, lacking_more, lacking_done}
+use Rattle.floodnet.proofs.arrays.lacking.Given as goal
+
+abbrev pub invariant-loop-left : goal.invariant-loop-left
+invariant-loop-left l = Visit 32 l.s l.left l.r (lacks l.pending l.seen l.i)
+
+abbrev pub decreases-loop-left : goal.decreases-loop-left
+decreases-loop-left l = size l.left

@@ -1,0 +1,22 @@
+-- `floodnet::arrays::mark` meets its contract. Assumes nothing.
+use borrow.Author.Rules.{rules}
+use mathlib.Core.Path.{◌∙◌}
+use Rattle.sets.specs.Set.{only, puts, size}
+use Rattle.sets.specs.laws.Sizes.{size_less}
+use Rattle.lists.specs.laws.Visit.{Visiting, visiting_none, visiting_more, visiting_done, visits_edit}
+use Rattle.floodnet.proofs.arrays.mark.Goals as goal
+
+pub loop-left-init : goal.loop-left-init
+loop-left-init c = visiting_none 32 _ _ _ (search rules)
+
+pub loop-left-smaller : goal.loop-left-smaller
+loop-left-smaller c = size_less 32 (search rules) (search rules) c.rest32-left.ensures.0
+
+pub loop-left-preserved : goal.loop-left-preserved
+unfolding puts
+loop-left-preserved c =
+    visiting_more c.loop-left.invariant (search rules) c.lowest32-q.ensures.0 c.rest32-left.ensures.0
+    c.with32.ensures
+
+pub returns : goal.returns
+returns c = visiting_done c.loop-left.invariant c.loop-left-test.false ∙ visits_edit _ 32 _ _ (search rules)

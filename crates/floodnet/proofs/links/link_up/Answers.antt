@@ -1,0 +1,7 @@
+-- `floodnet::links::link_up` meets its contract. Assumes nothing.
+use borrow.Author.Rules.{rules}
+use Rattle.floodnet.proofs.CodeLinks.{link_up_law}
+use Rattle.floodnet.proofs.links.link_up.Goals as goal
+
+pub returns : goal.returns
+returns c = λ n. link_up_law n _ _ _ _ _ _ _ _ _ c.union32.ensures c.mark.ensures c.note_all.ensures c.learn.ensures

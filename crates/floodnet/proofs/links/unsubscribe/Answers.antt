@@ -1,0 +1,8 @@
+-- `floodnet::links::unsubscribe` meets its contract. Assumes nothing.
+use borrow.Author.Rules.{rules}
+use Rattle.floodnet.specs.Topics.{unsubscribed_from}
+use Rattle.floodnet.proofs.links.unsubscribe.Goals as goal
+
+pub returns : goal.returns
+unfolding unsubscribed_from
+returns c = λ n. rw (c.minus32.ensures, c.strike_all.ensures)

@@ -1,0 +1,18 @@
+-- `floodnet::rows::drop_all` meets its contract. Assumes nothing.
+use borrow.Author.Rules.{rules}
+use mathlib.Core.Path.{◌∙◌}
+use Rattle.sets.specs.Set.{strikes}
+use Rattle.floodnet.proofs.CodeVisit.{along_done}
+use Rattle.floodnet.proofs.CodeChoices.{Picking, picking_none}
+use Rattle.floodnet.proofs.CodeWalks.{rows, rows_none, rows_dropped, dropping_row}
+use Rattle.floodnet.proofs.rows.drop_all.Goals as goal
+
+pub loop-left-init : goal.loop-left-init
+loop-left-init c = picking_none _ _ _ _ (search rules) rows_none
+
+pub loop-left-preserved : goal.loop-left-preserved
+loop-left-preserved c =
+    dropping_row _ c.loop-left.invariant (search rules) c.lowest32.ensures.0 c.rest32-left.ensures.0 c.row_minus.ensures
+
+pub returns : goal.returns
+returns c = along_done c.loop-left.invariant c.loop-left-test.false ∙ rows_dropped _ _ _ _ c.with32-own.ensures

@@ -1,0 +1,16 @@
+-- `floodnet::rows::learn` meets its contract. Assumes nothing.
+use borrow.Author.Rules.{rules}
+use Rattle.floodnet.proofs.CodeVisit.{Along, along_none, along_done}
+use Rattle.floodnet.specs.Lent.{learnt}
+use Rattle.floodnet.proofs.CodeWalks.{learnt_none, learning}
+use Rattle.floodnet.proofs.rows.learn.Goals as goal
+
+pub loop-left-init : goal.loop-left-init
+loop-left-init c = along_none _ _ _ (search rules) (learnt_none _ _)
+
+pub loop-left-preserved : goal.loop-left-preserved
+loop-left-preserved c =
+    learning _ _ c.loop-left.invariant (search rules) c.lowest32-q.ensures.0 c.rest32-left.ensures.0 c.row_note.ensures
+
+pub returns : goal.returns
+returns c = along_done c.loop-left.invariant c.loop-left-test.false

@@ -1,0 +1,12 @@
+-- The invariants of `floodnet::rows::learn`. Assumes nothing.
+use borrow.Author.Rules.{rules}
+use Rattle.floodnet.proofs.CodeVisit.{Along, along_none, along_done}
+use Rattle.floodnet.specs.Lent.{learnt}
+use Rattle.floodnet.proofs.CodeWalks.{learnt_none, learning}
+use Rattle.floodnet.proofs.rows.learn.Given as goal
+
+abbrev pub invariant-loop-left : goal.invariant-loop-left
+invariant-loop-left l = Along l.who l.left (learnt l.p.0 l.subs) l.initial.known l.known
+
+abbrev pub decreases-loop-left : goal.decreases-loop-left
+decreases-loop-left l = l.left

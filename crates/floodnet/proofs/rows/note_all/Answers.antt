@@ -1,0 +1,19 @@
+-- `floodnet::rows::note_all` meets its contract. Assumes nothing.
+use borrow.Author.Rules.{rules}
+use mathlib.Core.Path.{sym, ◌∙◌}
+use Rattle.sets.specs.Set.{only, puts}
+use Rattle.floodnet.proofs.CodeVisit.{along_done}
+use Rattle.floodnet.proofs.CodeChoices.{puts_twice, Picking, picking_none}
+use Rattle.floodnet.proofs.CodeArrays.{inside, inside_no_peer, inside_noted}
+use Rattle.floodnet.proofs.CodeWalks.{noting_row}
+use Rattle.floodnet.proofs.rows.note_all.Goals as goal
+
+pub loop-left-init : goal.loop-left-init
+loop-left-init c = picking_none _ _ _ _ (search rules) (inside_no_peer _)
+
+pub loop-left-preserved : goal.loop-left-preserved
+loop-left-preserved c =
+    noting_row _ _ (puts_twice _) c.loop-left.invariant (search rules) c.lowest32.ensures.0 c.rest32-left.ensures.0 (c.row_note.ensures ∙ sym (inside_noted _ _ _ _))
+
+pub returns : goal.returns
+returns c = along_done c.loop-left.invariant c.loop-left-test.false ∙ inside_noted _ _ _ _

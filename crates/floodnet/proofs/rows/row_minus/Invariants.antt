@@ -1,0 +1,16 @@
+-- The invariants of `floodnet::rows::row_minus`. Assumes nothing.
+use borrow.Author.Rules.{rules}
+use mathlib.Core.Path.{◌≡◌}
+use Prim.Native.Nat.{◌≤◌, ◌-◌}
+use native.Mathlib.Omega.{arith}
+use Rattle.sets.specs.Set.{strikes}
+use Rattle.lists.specs.Edit.{edit}
+use Rattle.floodnet.proofs.CodeChoices.{picks}
+use Rattle.floodnet.proofs.CodeRows.{front, row_none, row_more, row_all}
+use Rattle.floodnet.proofs.rows.row_minus.Given as goal
+
+abbrev pub invariant-loop-t : goal.invariant-loop-t
+invariant-loop-t l = (l.t ≤ 32) × (l.known ≡ edit (picks (front l.row.0 l.t) (strikes l.s)) l.initial.known)
+
+abbrev pub decreases-loop-t : goal.decreases-loop-t
+decreases-loop-t l = 32 - l.t

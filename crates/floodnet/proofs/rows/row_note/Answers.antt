@@ -1,0 +1,19 @@
+-- `floodnet::rows::row_note` meets its contract. Assumes nothing.
+use borrow.Author.Rules.{rules}
+use mathlib.Core.Path.{◌∙◌}
+use Rattle.sets.specs.Set.{only, puts}
+use Rattle.floodnet.proofs.CodeVisit.{along_done}
+use Rattle.floodnet.proofs.CodeChoices.{Picking, picking_none}
+use Rattle.floodnet.proofs.CodeArrays.{inside, inside_no_topic, inside_noted, noting}
+use Rattle.floodnet.proofs.rows.row_note.Goals as goal
+
+pub loop-left-init : goal.loop-left-init
+loop-left-init c = picking_none _ _ _ _ (search rules) (inside_no_topic _)
+
+pub loop-left-preserved : goal.loop-left-preserved
+unfolding puts
+loop-left-preserved c =
+    noting _ _ c.loop-left.invariant (search rules) c.lowest32.ensures.0 c.rest32-left.ensures.0 c.spot-k.ensures c.with32.ensures
+
+pub returns : goal.returns
+returns c = along_done c.loop-left.invariant c.loop-left-test.false ∙ inside_noted _ _ _ _

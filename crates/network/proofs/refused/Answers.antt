@@ -1,0 +1,8 @@
+-- `network::refused` meets its contract. Assumes nothing.
+use borrow.Author.Rules.{rules}
+use mathlib.Core.Path.{ap}
+use Rattle.network.specs.State.{opened}
+use Rattle.network.proofs.refused.Goals as goal
+
+pub returns : goal.returns
+returns c = ap (opened _ _ _) c.blank.ensures

@@ -1,0 +1,29 @@
+-- `network::rows::bad` meets its contract. Assumes nothing.
+use borrow.Author.Rules.{rules}
+use mathlib.Core.Path.{◌≡◌, sym, ap, ◌∙◌}
+use mathlib.Core.Bool.{not}
+use Prim.Native.Nat.{ℕ, ◌-◌, ◌≤◌}
+use native.Mathlib.Omega.{arith}
+use lib.ListN.{get_or}
+use Rattle.sets.specs.Least.{lowest_of}
+use Rattle.sets.specs.laws.Least.{lowest_of_all, lowest_of_start, lowest_of_on, lowest_of_found}
+use Rattle.network.specs.RowWords.{word_right, bad_word}
+use Rattle.network.proofs.rows.bad.Goals as goal
+
+pub returns-then-all_right : goal.returns-then-all_right
+unfolding bad_word
+returns-then-all_right c = sym (lowest_of_all 64 _ (sym c.all_right.ensures ∙ c.if-all_right.true))
+
+pub loop-r-init : goal.loop-r-init
+loop-r-init c = (search rules, lowest_of_start _)
+
+pub returns-then-not-right : goal.returns-then-not-right
+unfolding bad_word
+returns-then-not-right c = lowest_of_found 64 _ _ c.loop-r.invariant.1 (search rules) (ap not (sym c.right.ensures) ∙ c.if-not-right.true)
+
+pub loop-r-preserved : goal.loop-r-preserved
+loop-r-preserved c = (search rules, lowest_of_on _ _ c.loop-r.invariant.1 (ap not (sym c.right.ensures) ∙ c.if-not-right.false))
+
+pub returns : goal.returns
+unfolding bad_word
+returns c = let e : c.loop-r.r ≡ 64 = omega arith in rw e at c.loop-r.invariant.1

@@ -1,0 +1,17 @@
+-- The invariants of `network::rows::bad`. Assumes nothing.
+use borrow.Author.Rules.{rules}
+use mathlib.Core.Path.{◌≡◌, sym, ap, ◌∙◌}
+use mathlib.Core.Bool.{not}
+use Prim.Native.Nat.{ℕ, ◌-◌, ◌≤◌}
+use native.Mathlib.Omega.{arith}
+use lib.ListN.{get_or}
+use Rattle.sets.specs.Least.{lowest_of}
+use Rattle.sets.specs.laws.Least.{lowest_of_all, lowest_of_start, lowest_of_on, lowest_of_found}
+use Rattle.network.specs.RowWords.{word_right, bad_word}
+use Rattle.network.proofs.rows.bad.Given as goal
+
+abbrev pub invariant-loop-r : goal.invariant-loop-r
+invariant-loop-r l = (l.r ≤ 64) × (l.r ≡ lowest_of l.r (λ (i : ℕ). not (word_right (get_or l.words i 0))))
+
+abbrev pub decreases-loop-r : goal.decreases-loop-r
+decreases-loop-r l = 64 - l.r

@@ -1,0 +1,16 @@
+-- The invariants of `network::rows::columns`. Assumes nothing.
+use borrow.Author.Rules.{rules}
+use mathlib.Core.Path.{◌≡◌, refl}
+use Prim.Native.Nat.{ℕ, ◌-◌, ◌/◌, ◌%◌, ◌≤◌}
+use native.Mathlib.Omega.{arith}
+use lib.ListN.{length-replicate, get_or}
+use Rattle.lists.specs.Tab.{Filled}
+use Rattle.lists.specs.laws.Tab.{filled_none, filled_more, filled_all}
+use Rattle.network.specs.RowWords.{words_table}
+use Rattle.network.proofs.rows.columns.Given as goal
+
+abbrev pub invariant-loop-r : goal.invariant-loop-r
+invariant-loop-r l = (l.r ≤ 64) × Filled 64 (λ (i : ℕ). get_or l.words i 0 % 256) l.r l.topics × Filled 64 (λ (i : ℕ). get_or l.words i 0 / 256 % 256) l.r l.origins
+
+abbrev pub decreases-loop-r : goal.decreases-loop-r
+decreases-loop-r l = 64 - l.r

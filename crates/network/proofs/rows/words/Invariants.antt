@@ -1,0 +1,16 @@
+-- The invariants of `network::rows::words`. Assumes nothing.
+use borrow.Author.Rules.{rules}
+use mathlib.Core.Path.{◌≡◌}
+use Prim.Native.Nat.{ℕ, ◌-◌, ◌≤◌}
+use native.Mathlib.Omega.{arith}
+use lib.ListN.{length-replicate}
+use Rattle.lists.specs.Tab.{Filled}
+use Rattle.lists.specs.laws.Tab.{filled_none, filled_more, filled_all}
+use Rattle.network.specs.RowWords.{row_word}
+use Rattle.network.proofs.rows.words.Given as goal
+
+abbrev pub invariant-loop-r : goal.invariant-loop-r
+invariant-loop-r l = (l.r ≤ 64) × Filled 64 (row_word l.table) l.r l.x
+
+abbrev pub decreases-loop-r : goal.decreases-loop-r
+decreases-loop-r l = 64 - l.r

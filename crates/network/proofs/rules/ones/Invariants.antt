@@ -1,0 +1,18 @@
+-- The invariants of `network::rules::ones`. Assumes nothing.
+use borrow.Author.Rules.{rules}
+use mathlib.Core.Path.{◌≡◌, ◌∙◌}
+use mathlib.Core.Logic.{⊎_elim}
+use Prim.Native.Nat.{ℕ, ◌-◌, ◌%◌, ◌≤◌}
+use native.Mathlib.Omega.{arith}
+use lib.Dec.{eqb}
+use lib.ListN.{get_or}
+use borrow.Author.Tests.{eq-eqb, ne_eqb}
+use Rattle.sets.specs.Set.{set_of}
+use Rattle.sets.specs.laws.Build.{fill_none, fill_yes, fill_no}
+use Rattle.network.proofs.rules.ones.Given as goal
+
+abbrev pub invariant-loop-p : goal.invariant-loop-p
+invariant-loop-p l = (l.p ≤ 32) × (l.r ≡ set_of l.p (λ (q : ℕ). eqb (get_or l.heads q 0 % 256) 1))
+
+abbrev pub decreases-loop-p : goal.decreases-loop-p
+decreases-loop-p l = 32 - l.p

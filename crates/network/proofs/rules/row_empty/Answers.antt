@@ -1,0 +1,31 @@
+-- `network::rules::row_empty` meets its contract. Assumes nothing.
+use borrow.Author.Rules.{rules}
+use mathlib.Core.Path.{◌≡◌, ◌∙◌}
+use mathlib.Core.Logic.{⊎_elim}
+use Prim.Native.Nat.{ℕ, ◌+◌, ◌-◌, ◌≤◌}
+use native.Mathlib.Omega.{arith}
+use lib.Dec.{eqb}
+use lib.ListN.{get_or}
+use borrow.Author.Tests.{eq-eqb, ne_eqb}
+use Rattle.sets.specs.Any.{all}
+use Rattle.sets.specs.laws.Any.{all_start}
+use Rattle.network.specs.Tests.{row_empty}
+use Rattle.network.proofs.Tests.{all_keep, all_lost}
+use Rattle.network.proofs.rules.row_empty.Goals as goal
+
+pub loop-t-init : goal.loop-t-init
+loop-t-init c = (search rules, all_start _)
+
+pub loop-t-preserved : goal.loop-t-preserved
+loop-t-preserved c =
+    let l = c.loop-t in (
+      search rules,
+      ⊎_elim
+          (λ w. w.1 ∙ all_lost l.t _ (ne_eqb _ _ w.0.taken))
+          (λ w. w.1 ∙ all_keep l.t _ l.invariant.1 (eq-eqb _ _ w.0.left))
+          c.if-known-base-ne0.branch,
+    )
+
+pub returns : goal.returns
+unfolding row_empty
+returns c = let e : c.loop-t.t ≡ 32 = omega arith in rw e at c.loop-t.invariant.1

@@ -1,0 +1,20 @@
+-- `network::rules::subscribers` meets its contract. Assumes nothing.
+use borrow.Author.Rules.{rules}
+use mathlib.Core.Path.{◌≡◌}
+use Prim.Native.Nat.{◌-◌, ◌≤◌}
+use native.Mathlib.Omega.{arith}
+use Rattle.lists.specs.Tab.{tab}
+use Rattle.network.specs.Tests.{subscribers_of}
+use Rattle.network.proofs.Gathering.{up_to, subscribers_none, subscribers_more}
+use Rattle.network.proofs.rules.subscribers.Goals as goal
+
+pub loop-q-init : goal.loop-q-init
+loop-q-init c = (search rules, subscribers_none c.args.subs.now)
+
+pub loop-q-preserved : goal.loop-q-preserved
+loop-q-preserved c =
+    (search rules, subscribers_more c.args.subs.now c.loop-q.q c.loop-q.invariant.1 c.join.ensures)
+
+pub returns : goal.returns
+unfolding subscribers_of
+returns c = let e : c.loop-q.q ≡ 32 = omega arith in rw e at c.loop-q.invariant.1

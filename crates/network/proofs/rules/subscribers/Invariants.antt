@@ -1,0 +1,15 @@
+-- The invariants of `network::rules::subscribers`. Assumes nothing.
+use borrow.Author.Rules.{rules}
+use mathlib.Core.Path.{◌≡◌}
+use Prim.Native.Nat.{◌-◌, ◌≤◌}
+use native.Mathlib.Omega.{arith}
+use Rattle.lists.specs.Tab.{tab}
+use Rattle.network.specs.Tests.{subscribers_of}
+use Rattle.network.proofs.Gathering.{up_to, subscribers_none, subscribers_more}
+use Rattle.network.proofs.rules.subscribers.Given as goal
+
+abbrev pub invariant-loop-q : goal.invariant-loop-q
+invariant-loop-q l = (l.q ≤ 32) × (l.r ≡ tab 32 (up_to l.subs l.q))
+
+abbrev pub decreases-loop-q : goal.decreases-loop-q
+decreases-loop-q l = 32 - l.q

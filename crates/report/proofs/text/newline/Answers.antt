@@ -1,0 +1,7 @@
+-- `report::text::newline` meets its contract. Assumes nothing.
+use borrow.Author.Rules.{rules}
+use Rattle.report.proofs.Write.{wrote_one}
+use Rattle.report.proofs.text.newline.Goals as goal
+
+pub returns : goal.returns
+returns c = wrote_one _ _ _

@@ -10,7 +10,7 @@ pub returns : goal.returns
 returns c =
     let input = c.args.input.now in
     printed_as c.run.ensures
-    (flood_run input c.if-input-gt65536.left
+    (flood_run input c.if-input-gt65536.false
     (state_part input c.least-middle.ensures)
     (table_part input c.least-middle.ensures c.least-last.ensures)
     (events_part input c.least-last.ensures))

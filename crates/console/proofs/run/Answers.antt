@@ -19,4 +19,4 @@ run_events-ran-requires c =
 pub returns : goal.returns
 returns c =
     printed_report c.report.ensures
-    (text_run _ _ _ c.begin-begun.ensures c.if-begun-ne0.left c.run_events-ran.result c.run_events-ran.ensures c.shown-show.ensures)
+    (text_run _ _ _ c.begin-begun.ensures c.if-begun-ne0.false c.run_events-ran.result c.run_events-ran.ensures c.shown-show.ensures)

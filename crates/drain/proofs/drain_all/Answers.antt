@@ -18,11 +18,11 @@ use Rattle.drain.proofs.drain_all.Goals as goal
 fits : (c : tie.After-drain_round invariant-loop decreases-loop)
     → (c.loop-made.made + c.drain_round-k.result ≤ c.args.budget)
 fits c =
-    lent_fits c.loop-made.invariant.0 c.waiting-due.ensures.0 c.if-due-eq0.left c.drain_round-k.ensures.1 c.drain_round-k.ensures.0
+    lent_fits c.loop-made.invariant.0 c.waiting-due.ensures.0 c.if-due-eq0.false c.drain_round-k.ensures.1 c.drain_round-k.ensures.0
 
 moves : (c : tie.After-drain_round invariant-loop decreases-loop) → 0 < c.drain_round-k.result
 moves c =
-    lent_moves c.loop-made.invariant.0 c.waiting-due.ensures.0 c.if-due-eq0.left c.drain_round-k.ensures.1 c.drain_round-k.ensures.0
+    lent_moves c.loop-made.invariant.0 c.waiting-due.ensures.0 c.if-due-eq0.false c.drain_round-k.ensures.1 c.drain_round-k.ensures.0
     (search rules)
 
 pub by_topic-words-requires : goal.by_topic-words-requires
@@ -42,7 +42,7 @@ returns-then-due-eq0 c =
 
 pub drain_round-k-requires : goal.drain_round-k-requires
 drain_round-k-requires c =
-    (c.pre, (own_topics c.args.topics.now c.by_topic-words.result (search rules) c.by_topic-words.ensures, c.loop-made.invariant.1))
+    (c.requires, (own_topics c.args.topics.now c.by_topic-words.result (search rules) c.by_topic-words.ensures, c.loop-made.invariant.1))
 
 pub overflow_add-made : goal.overflow_add-made
 overflow_add-made c = omega (arith, fits c)
@@ -57,7 +57,7 @@ loop-made-smaller-then-k-due c = omega (arith, fits c, moves c)
 pub loop-made-preserved-then-k-due : goal.loop-made-preserved-then-k-due
 loop-made-preserved-then-k-due c =
     let v = c.loop-made.invariant in (
-      lent_round v.0 c.waiting-due.ensures.0 c.if-due-eq0.left c.drain_round-k.ensures.1 c.drain_round-k.ensures.0 c.if-k-due.true,
+      lent_round v.0 c.waiting-due.ensures.0 c.if-due-eq0.false c.drain_round-k.ensures.1 c.drain_round-k.ensures.0 c.if-k-due.true,
       leads_within (Filed _ _ _) (c.args.budget - c.loop-made.made) _ _ _ c.drain_round-k.ensures.1 v.1,
     )
 
@@ -67,7 +67,7 @@ loop-made-smaller c = omega (arith, fits c, moves c)
 pub loop-made-preserved : goal.loop-made-preserved
 loop-made-preserved c =
     let v = c.loop-made.invariant in (
-      lent_part v.0 c.waiting-due.ensures.0 c.if-due-eq0.left c.drain_round-k.ensures.1 c.drain_round-k.ensures.0 c.if-k-due.false,
+      lent_part v.0 c.waiting-due.ensures.0 c.if-due-eq0.false c.drain_round-k.ensures.1 c.drain_round-k.ensures.0 c.if-k-due.false,
       leads_within (Filed _ _ _) (c.args.budget - c.loop-made.made) _ _ _ c.drain_round-k.ensures.1 v.1,
     )
 

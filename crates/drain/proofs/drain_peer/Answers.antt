@@ -23,12 +23,12 @@ returns-then-todo-eq0 c =
 
 pub forward_set-requires : goal.forward_set-requires
 forward_set-requires c =
-    let given = c.pre in
+    let given = c.requires in
     (given.0, given.1.1)
 
 pub returns-then-all-left : goal.returns-then-all-left
 returns-then-all-left c =
-    all_at_once (search rules) c.how_many-all.ensures.0 c.if-all-left.taken c.forward_set.ensures
+    all_at_once (search rules) c.how_many-all.ensures.0 c.if-all-left.true c.forward_set.ensures
 
 pub loop-made-init : goal.loop-made-init
 loop-made-init c = λ n os. walk_none _ _ _ _ _ (search rules)
@@ -38,7 +38,7 @@ returns-then-rest-eq0 c =
     ((walk_done _ _ _ _ _ (c.loop-made.invariant bare []) (inl c.if-rest-eq0.true)).0, λ n os. (walk_done _ _ _ _ _ (c.loop-made.invariant n os) (inl c.if-rest-eq0.true)).1)
 
 pub forward-requires : goal.forward-requires
-forward-requires c = (search rules, search rules, c.pre.1.0 _)
+forward-requires c = (search rules, search rules, c.requires.1.0 _)
 
 pub loop-made-preserved : goal.loop-made-preserved
 unfolding fwd

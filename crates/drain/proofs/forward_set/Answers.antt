@@ -11,8 +11,8 @@ pub loop-left-preserved : goal.loop-left-preserved
 loop-left-preserved c =
     let v = c.loop-left.invariant in
     ⊎_elim
-    (λ w. rw w.5 (spreading_more (search rules) c.pre.1.1 c.pre.1.0 v (search rules) c.lowest32-t.ensures.0 c.rest32-left.ensures.0 c.meet64-w.ensures w.4.ensures.1 w.4.ensures.0))
-    (λ w. rw w.1 (spreading_skip (search rules) c.pre.1.1 c.pre.1.0 v (search rules) c.lowest32-t.ensures.0 c.rest32-left.ensures.0 c.meet64-w.ensures w.0.left))
+    (λ w. rw w.5 (spreading_more (search rules) c.requires.1.1 c.requires.1.0 v (search rules) c.lowest32-t.ensures.0 c.rest32-left.ensures.0 c.meet64-w.ensures w.4.ensures.1 w.4.ensures.0))
+    (λ w. rw w.1 (spreading_skip (search rules) c.requires.1.1 c.requires.1.0 v (search rules) c.lowest32-t.ensures.0 c.rest32-left.ensures.0 c.meet64-w.ensures w.0.left))
     c.if-w-ne0.branch
 
 pub returns : goal.returns

@@ -9,5 +9,5 @@ returns-then-state-ne5120 c = opens_1 _ _ c.if-state-ne5120.true
 
 pub returns : goal.returns
 returns c =
-    let n = net_is _ c.words-heads.ensures c.ones-present.ensures c.words.ensures c.words-2.ensures c.words-3.ensures c.longs.ensures c.longs-2.ensures c.fill-Known.ensures in
-    opens_verdict _ _ c.if-state-ne5120.left (verdict_at_lem _ c.words-heads.ensures n (c.verdict-verdict.ensures bare)) n
+    let n = net_is _ c.words-heads.ensures c.ones-present.ensures c.words.ensures c.words-2.ensures c.words-3.ensures c.longs.ensures c.longs-2.ensures c.fill_known.ensures in
+    opens_verdict _ _ c.if-state-ne5120.false (verdict_at_lem _ c.words-heads.ensures n (c.verdict-verdict.ensures bare)) n

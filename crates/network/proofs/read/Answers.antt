@@ -5,18 +5,13 @@ use Rattle.network.specs.State.{verdict_at}
 use Rattle.network.specs.laws.Opening.{verdict_at_lem, open_1, open_refused, open_0}
 use Rattle.network.proofs.read.Goals as goal
 
--- what is found is the verdict
-found : (c : tie.After-verdict) → c.verdict-verdict.result ≡ verdict_at c.args.state.now
-found c =
-    verdict_at_lem _ c.words-heads.ensures c.network-network.ensures (c.verdict-verdict.ensures c.network-network.result)
-
 pub returns-then-state-ne5120 : goal.returns-then-state-ne5120
 returns-then-state-ne5120 c = c.refused.ensures ∙ open_1 _ c.if-state-ne5120.true
 
 pub returns-then-verdict-ne0 : goal.returns-then-verdict-ne0
 returns-then-verdict-ne0 c =
-    c.refused-then-verdict-ne0.ensures ∙ open_refused _ c.if-state-ne5120.false (found c) c.if-verdict-ne0.true
+    c.refused-then-verdict-ne0.ensures ∙ open_refused _ c.if-state-ne5120.false (verdict_at_lem _ c.words-heads.ensures c.network-network.ensures (c.verdict-verdict.ensures c.network-network.result)) c.if-verdict-ne0.true
 
 pub returns : goal.returns
 returns c =
-    open_0 _ c.if-state-ne5120.false (found c) c.if-verdict-ne0.false c.network-network.ensures
+    open_0 _ c.if-state-ne5120.false (verdict_at_lem _ c.words-heads.ensures c.network-network.ensures (c.verdict-verdict.ensures c.network-network.result)) c.if-verdict-ne0.false c.network-network.ensures

@@ -7,17 +7,13 @@ use Rattle.network.proofs.RowWords.{bad_is, table_is}
 use borrow.Author.Rules.{rules}
 use Rattle.network.proofs.read_table.Goals as goal
 
--- what is found is the lowest bad row
-found : (c : tie.After-bad) → c.bad-r.result ≡ bad_row c.args.table.now
-found c = c.bad-r.ensures ∙ bad_is _ (λ i. (c.shared_slice_known-1.given i).fits) c.words-words.ensures
-
 pub returns-then-table-ne256 : goal.returns-then-table-ne256
 returns-then-table-ne256 c = c.unlisted.ensures ∙ list_2 _ c.if-table-ne256.true
 
 pub returns-then-r-lt64 : goal.returns-then-r-lt64
 returns-then-r-lt64 c =
-    c.unlisted-then-r-lt64.ensures ∙ list_4 _ _ c.if-table-ne256.false (found c) c.if-r-lt64.true
+    c.unlisted-then-r-lt64.ensures ∙ list_4 _ _ c.if-table-ne256.false (c.bad-r.ensures ∙ bad_is _ (λ i. (c.type_inv.table i).fits) c.words-words.ensures) c.if-r-lt64.true
 
 pub returns : goal.returns
 returns c =
-    list_0 _ _ c.if-table-ne256.left (found c) c.if-r-lt64.false (c.columns.ensures ∙ table_is _ (λ i. (c.shared_slice_known-1.given i).fits) c.words-words.ensures)
+    list_0 _ _ c.if-table-ne256.false (c.bad-r.ensures ∙ bad_is _ (λ i. (c.type_inv.table i).fits) c.words-words.ensures) c.if-r-lt64.false (c.columns.ensures ∙ table_is _ (λ i. (c.type_inv.table i).fits) c.words-words.ensures)

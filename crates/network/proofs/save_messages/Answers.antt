@@ -16,7 +16,7 @@ pub loop-p-preserved : goal.loop-p-preserved
 loop-p-preserved c =
     let l = c.loop-p in
     let e = put_messages_more l.p _ _ _ l.invariant.2 c.put8.ensures c.put8-in-loop-p.ensures in
-    (search rules, ap length e ∙ length_put_messages _ _ _ _ ∙ c.pre, e)
+    (search rules, ap length e ∙ length_put_messages _ _ _ _ ∙ c.requires, e)
 
 pub returns : goal.returns
 returns c = let e : c.loop-p.p ≡ 32 = omega arith in rw e at c.loop-p.invariant.2

@@ -12,4 +12,4 @@ returns-then-not-show c = reported_first _ _ _ _ _ c.if-out-lt1024.false (not-tr
 
 pub returns : goal.returns
 returns c =
-    reported_all _ _ _ _ _ c.if-out-lt1024.left (not-false _ c.if-not-show.false) c.first_line-first.ensures.0 c.peer_lines.ensures
+    reported_all _ _ _ _ _ c.if-out-lt1024.false (not-false _ c.if-not-show.false) c.first_line-first.ensures.0 c.peer_lines.ensures

@@ -22,4 +22,4 @@ pub returns : goal.returns
 returns c =
     λ n os b.
     let done = c.forward-turned.ensures n os in
-    forward_done _ _ _ _ _ c.forwarded-2.ensures c.if-peer-gt31.false c.if-message-gt63.false done.answer done.state c.if-turned-ne0.left (saved _ _ _ b c.save_messages.ensures)
+    forward_done _ _ _ _ _ c.forwarded-2.ensures c.if-peer-gt31.false c.if-message-gt63.false done.answer done.state c.if-turned-ne0.false (saved _ _ _ b c.save_messages.ensures)

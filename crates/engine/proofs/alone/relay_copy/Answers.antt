@@ -13,5 +13,5 @@ returns-then-to-ne5120 c =
 
 pub returns : goal.returns
 returns c =
-    let z = c.if-opened-ne0.left in
+    let z = c.if-opened-ne0.false in
     answered_as c.answer-2.ensures (copy_done _ _ _ (looked_net _ c.«open».ensures z) z c.if-to-ne5120.false c.save.ensures)

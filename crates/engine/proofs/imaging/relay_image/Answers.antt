@@ -15,6 +15,6 @@ returns-then-image-ne5120 c =
 
 pub returns : goal.returns
 returns c =
-    let z = c.if-opened-ne0.left in
+    let z = c.if-opened-ne0.false in
     answered_as c.answer-2.ensures
-    (image_done _ _ _ (looked_net _ c.«open».ensures z) z c.if-image-ne5120.left (image_net_made _ c.underway.ensures c.settled-settled.ensures) c.save.ensures)
+    (image_done _ _ _ (looked_net _ c.«open».ensures z) z c.if-image-ne5120.false (image_net_made _ c.underway.ensures c.settled-settled.ensures) c.save.ensures)

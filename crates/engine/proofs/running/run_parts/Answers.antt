@@ -29,7 +29,7 @@ loop-place-init c = λ n. going_start _ _ _ _
 
 pub turn-turned-requires : goal.turn-turned-requires
 turn-turned-requires c =
-    (rw (read_is _ _ _ c.event_at.ensures) (reads_fit _ (λ i. (c.shared_slice_known-1.given i).fits) _), c.pre)
+    (rw (read_is _ _ _ c.event_at.ensures) (reads_fit _ (λ i. (c.shared_slice_known-1.given i).fits) _), c.requires)
 
 pub returns-then-number-ne0 : goal.returns-then-number-ne0
 unfolding run_all
@@ -49,7 +49,7 @@ loop-place-smaller c = omega (arith, c.loop-place-test.taken)
 
 pub loop-place-preserved : goal.loop-place-preserved
 loop-place-preserved c =
-    λ n. ran_on _ _ _ (c.loop-place.invariant n) c.loop-place-test.taken (read_is _ _ _ c.event_at.ensures) _ _ (c.turn-turned.ensures n) c.if-number-ne0.left (few c) _ c.count_in.ensures
+    λ n. ran_on _ _ _ (c.loop-place.invariant n) c.loop-place-test.taken (read_is _ _ _ c.event_at.ensures) _ _ (c.turn-turned.ensures n) c.if-number-ne0.false (few c) _ c.count_in.ensures
 
 pub returns : goal.returns
 unfolding run_all

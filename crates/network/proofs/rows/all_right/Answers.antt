@@ -11,6 +11,7 @@ use Rattle.sets.specs.laws.Any.{all_start}
 use Rattle.network.specs.RowWords.{word_right}
 use Rattle.network.proofs.Tests.{all_keep, all_lost}
 use Rattle.network.proofs.rows.all_right.Goals as goal
+use Rattle.network.proofs.rows.all_right.Goals.{then-not-right, else-not-right}
 
 pub loop-r-init : goal.loop-r-init
 loop-r-init c = (search rules, all_start _)
@@ -20,10 +21,10 @@ loop-r-preserved c =
     let l = c.loop-r in
     let e = sym c.right.ensures in (
       search rules,
-      ⊎_elim
-          (λ w. w.1 ∙ all_lost l.r _ (e ∙ not_yes _ w.0.taken))
-          (λ w. w.1 ∙ all_keep l.r _ l.invariant.1 (e ∙ not_no _ w.0.left))
-          c.if-not-right.branch,
+      elim c.if-not-right.branch [
+        then-not-right w ↦ w.ok-is ∙ all_lost l.r _ (e ∙ w.if-not-right.true)
+        | else-not-right w ↦ w.ok-is ∙ all_keep l.r _ l.invariant.1 (e ∙ w.if-not-right.false)
+      ],
     )
 
 pub returns : goal.returns

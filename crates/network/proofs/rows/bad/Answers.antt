@@ -19,10 +19,10 @@ loop-r-init c = (search rules, lowest_of_start _)
 
 pub returns-then-not-right : goal.returns-then-not-right
 unfolding bad_word
-returns-then-not-right c = lowest_of_found 64 _ _ c.loop-r.invariant.1 (search rules) (ap not (sym c.right.ensures) ∙ c.if-not-right.true)
+returns-then-not-right c = lowest_of_found 64 _ _ c.loop-r.invariant.1 (search rules) (ap not (sym c.right.ensures ∙ c.if-not-right.true))
 
 pub loop-r-preserved : goal.loop-r-preserved
-loop-r-preserved c = (search rules, lowest_of_on _ _ c.loop-r.invariant.1 (ap not (sym c.right.ensures) ∙ c.if-not-right.false))
+loop-r-preserved c = (search rules, lowest_of_on _ _ c.loop-r.invariant.1 (ap not (sym c.right.ensures ∙ c.if-not-right.false)))
 
 pub returns : goal.returns
 unfolding bad_word

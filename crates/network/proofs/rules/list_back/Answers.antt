@@ -9,26 +9,19 @@ use Rattle.sets.specs.laws.Lowest.{least_narrow, rest_narrow}
 use Rattle.network.proofs.ListingBack.{Backs, backs_none, backs_more, backs_all, backs_not}
 use Rattle.network.proofs.rules.list_back.Goals as goal
 
--- the neighbour found is one of 32, and the least of those left
-small : (c : tie.After-lowest64 invariant-loop decreases-loop) → c.lowest64-q.result < 32
-small c = (least_narrow (search rules) c.loop-left.invariant.below c.lowest64-q.ensures.0).1
-
-least : (c : tie.After-lowest64 invariant-loop decreases-loop) → c.lowest64-q.result ≡ lowest 32 c.loop-left.left
-least c = (least_narrow (search rules) c.loop-left.invariant.below c.lowest64-q.ensures.0).0
-
 pub loop-left-init : goal.loop-left-init
 loop-left-init c = backs_none _ _ _ (search rules)
 
 pub bounds-neighbours-q : goal.bounds-neighbours-q
-bounds-neighbours-q c = small c
+bounds-neighbours-q c = (least_narrow (search rules) c.loop-left.invariant.below c.lowest64-q.ensures.0).1
 
 pub returns-then-not-has32 : goal.returns-then-not-has32
 returns-then-not-has32 c =
-    backs_not c.loop-left.invariant (search rules) (least c) (sym c.has32.ensures ∙ not_yes _ c.if-not-has32.true)
+    backs_not c.loop-left.invariant (search rules) (least_narrow (search rules) c.loop-left.invariant.below c.lowest64-q.ensures.0).0 (sym c.has32.ensures ∙ c.if-not-has32.true)
 
 pub loop-left-preserved : goal.loop-left-preserved
 loop-left-preserved c =
-    backs_more c.loop-left.invariant (search rules) (least c) (rest_narrow (search rules) c.loop-left.invariant.below c.rest64-left.ensures.0) (sym c.has32.ensures ∙ not_no _ c.if-not-has32.false)
+    backs_more c.loop-left.invariant (search rules) (least_narrow (search rules) c.loop-left.invariant.below c.lowest64-q.ensures.0).0 (rest_narrow (search rules) c.loop-left.invariant.below c.rest64-left.ensures.0) (sym c.has32.ensures ∙ c.if-not-has32.false)
 
 pub returns : goal.returns
 returns c = backs_all c.loop-left.invariant (omega arith)

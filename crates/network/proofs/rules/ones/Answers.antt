@@ -10,6 +10,7 @@ use borrow.Author.Tests.{eq-eqb, ne_eqb}
 use Rattle.sets.specs.Set.{set_of}
 use Rattle.sets.specs.laws.Build.{fill_none, fill_yes, fill_no}
 use Rattle.network.proofs.rules.ones.Goals as goal
+use Rattle.network.proofs.rules.ones.Goals.{then-heads-p-eq1, else-heads-p-eq1}
 
 pub loop-p-init : goal.loop-p-init
 loop-p-init c = (search rules, fill_none _)
@@ -18,10 +19,10 @@ pub loop-p-preserved : goal.loop-p-preserved
 loop-p-preserved c =
     let l = c.loop-p in (
       search rules,
-      ⊎_elim
-          (λ w. fill_yes l.p _ l.invariant.1 (eq-eqb _ _ w.0.taken) (w.2 ∙ w.1.ensures))
-          (λ w. w.1 ∙ fill_no l.p _ l.invariant.1 (ne_eqb _ _ w.0.left))
-          c.if-heads-p-eq1.branch,
+      elim c.if-heads-p-eq1.branch [
+        then-heads-p-eq1 w ↦ fill_yes l.p _ l.invariant.1 (eq-eqb _ _ w.if-heads-p-eq1.true) (w.r-is ∙ w.with32-r.ensures)
+        | else-heads-p-eq1 w ↦ w.r-is ∙ fill_no l.p _ l.invariant.1 (ne_eqb _ _ w.if-heads-p-eq1.false)
+      ],
     )
 
 pub returns : goal.returns

@@ -12,6 +12,7 @@ use Rattle.sets.specs.laws.Any.{all_start}
 use Rattle.network.specs.Tests.{row_empty}
 use Rattle.network.proofs.Tests.{all_keep, all_lost}
 use Rattle.network.proofs.rules.row_empty.Goals as goal
+use Rattle.network.proofs.rules.row_empty.Goals.{then-known-base-ne0, else-known-base-ne0}
 
 pub loop-t-init : goal.loop-t-init
 loop-t-init c = (search rules, all_start _)
@@ -20,10 +21,10 @@ pub loop-t-preserved : goal.loop-t-preserved
 loop-t-preserved c =
     let l = c.loop-t in (
       search rules,
-      ⊎_elim
-          (λ w. w.1 ∙ all_lost l.t _ (ne_eqb _ _ w.0.taken))
-          (λ w. w.1 ∙ all_keep l.t _ l.invariant.1 (eq-eqb _ _ w.0.left))
-          c.if-known-base-ne0.branch,
+      elim c.if-known-base-ne0.branch [
+        then-known-base-ne0 w ↦ w.same-is ∙ all_lost l.t _ (ne_eqb _ _ w.if-known-base-ne0.true)
+        | else-known-base-ne0 w ↦ w.same-is ∙ all_keep l.t _ l.invariant.1 (eq-eqb _ _ w.if-known-base-ne0.false)
+      ],
     )
 
 pub returns : goal.returns

@@ -12,6 +12,7 @@ use Rattle.sets.specs.Any.{all}
 use Rattle.sets.specs.laws.Any.{all_start}
 use Rattle.network.proofs.Tests.{all_keep, all_lost}
 use Rattle.network.proofs.rules.row_same.Goals as goal
+use Rattle.network.proofs.rules.row_same.Goals.{then-known-base, else-known-base}
 
 pub loop-t-init : goal.loop-t-init
 loop-t-init c = (search rules, all_start _)
@@ -21,10 +22,10 @@ loop-t-preserved c =
     let m = c.meet32.ensures in
     let l = c.loop-t in (
       search rules,
-      ⊎_elim
-          (λ w. w.1 ∙ all_lost l.t _ (ne_eqb _ _ (λ e. w.0.taken (e ∙ sym m))))
-          (λ w. w.1 ∙ all_keep l.t _ l.invariant.1 (eq-eqb _ _ (w.0.left ∙ m)))
-          c.if-known-base.branch,
+      elim c.if-known-base.branch [
+        then-known-base w ↦ w.same-is ∙ all_lost l.t _ (ne_eqb _ _ (λ e. w.if-known-base.true (e ∙ sym m)))
+        | else-known-base w ↦ w.same-is ∙ all_keep l.t _ l.invariant.1 (eq-eqb _ _ (w.if-known-base.false ∙ m))
+      ],
     )
 
 pub returns : goal.returns

@@ -13,10 +13,8 @@ use Rattle.lists.specs.Visit.{visits}
 use Rattle.lists.specs.laws.Edit.{length_edit, get_or_edit}
 use Rattle.lists.specs.laws.Tab.{is_tab}
 use Rattle.lists.specs.laws.Visit.{Visiting, visiting_none, visiting_more, visiting_done, visits_edit}
+use Rattle.network.proofs.store.heads.Invariants.{one}
 use Rattle.network.proofs.store.heads.Goals as goal
-
-abbrev one : ℕ → ℕ → ℕ
-one p x = 1
 
 -- 1 put at the members of s, in an array of zeros
 marked : (s : ℕ) → s < 2 ^ 32 → visits one (members 32 s) (replicate 32 0) ≡ tab 32 (λ (p : ℕ). digit (has s p))

@@ -15,6 +15,10 @@ use Rattle.lists.specs.laws.Tab.{is_tab}
 use Rattle.lists.specs.laws.Visit.{Visiting, visiting_none, visiting_more, visiting_done, visits_edit}
 use Rattle.network.proofs.store.heads.Given as goal
 
+-- 1 is put at each place
+abbrev pub one : ℕ → ℕ → ℕ
+one p x = 1
+
 abbrev pub invariant-loop-left : goal.invariant-loop-left
 invariant-loop-left l = Visiting 32 l.present l.left one l.initial.r l.r
 

@@ -1,6 +1,8 @@
 -- `network::verdict::detail` meets its contract. Assumes nothing.
 use borrow.Author.Rules.{rules}
 use mathlib.Core.Path.{◌∙◌}
+use mathlib.Core.List.{List}
+use Prim.Native.Nat.{ℕ}
 use native.Mathlib.Omega.{arith}
 use Rattle.network.specs.declared.Network.{Network}
 use Rattle.network.specs.Network.{with_present, with_subs, with_neighbours, with_known}
@@ -11,32 +13,32 @@ use Rattle.network.proofs.Tests.{wrong_le, near_is, back_is, known_is}
 use Rattle.network.proofs.verdict.detail.Goals as goal
 
 -- the network that the contract speaks of
-abbrev net : Network → tie.Start → Network
-net n s = with_present (with_subs (with_neighbours (with_known n s.args.known.now) s.args.neighbours.now) s.args.subs.now) s.args.present
+abbrev net : Network → ℕ → List ℕ → List ℕ → List ℕ → Network
+net n present subs neighbours known = with_present (with_subs (with_neighbours (with_known n known) neighbours) subs) present
 
 pub overflow_cast-result : goal.overflow_cast-result
 overflow_cast-result c =
-    omega (arith, wrong_le (near_at (net bare c) c.args.p) (near_is (net bare c) c.args.p) c.near_absent.ensures)
+    omega (arith, wrong_le (near_at (net bare c.args.present c.args.subs.now c.args.neighbours.now c.args.known.now) c.args.p) (near_is (net bare c.args.present c.args.subs.now c.args.neighbours.now c.args.known.now) c.args.p) c.near_absent.ensures)
 
 pub returns-then-number-eq23 : goal.returns-then-number-eq23
 returns-then-number-eq23 c =
-    λ n. detail_23 _ _ _ c.if-number-eq23.true (c.near_absent.ensures ∙ near_is (net n c) c.args.p)
+    λ n. detail_23 _ _ _ c.if-number-eq23.true (c.near_absent.ensures ∙ near_is (net n c.args.present c.args.subs.now c.args.neighbours.now c.args.known.now) c.args.p)
 
 pub overflow_cast-result-then-number-eq24 : goal.overflow_cast-result-then-number-eq24
 overflow_cast-result-then-number-eq24 c =
-    omega (arith, wrong_le (back_at (net bare c) c.args.p) (back_is (net bare c) c.args.p) c.List-back.ensures)
+    omega (arith, wrong_le (back_at (net bare c.args.present c.args.subs.now c.args.neighbours.now c.args.known.now) c.args.p) (back_is (net bare c.args.present c.args.subs.now c.args.neighbours.now c.args.known.now) c.args.p) c.list_back.ensures)
 
 pub returns-then-number-eq24 : goal.returns-then-number-eq24
 returns-then-number-eq24 c =
-    λ n. detail_24 _ _ _ c.if-number-eq24.true (c.List-back.ensures ∙ back_is (net n c) c.args.p)
+    λ n. detail_24 _ _ _ c.if-number-eq24.true (c.list_back.ensures ∙ back_is (net n c.args.present c.args.subs.now c.args.neighbours.now c.args.known.now) c.args.p)
 
 pub overflow_cast-result-then-number-eq25 : goal.overflow_cast-result-then-number-eq25
 overflow_cast-result-then-number-eq25 c =
-    omega (arith, wrong_le (known_at (net bare c) c.args.p) (known_is (net bare c) c.args.p c.pre.1) c.row_known.ensures)
+    omega (arith, wrong_le (known_at (net bare c.args.present c.args.subs.now c.args.neighbours.now c.args.known.now) c.args.p) (known_is (net bare c.args.present c.args.subs.now c.args.neighbours.now c.args.known.now) c.args.p c.requires.1) c.row_known.ensures)
 
 pub returns-then-number-eq25 : goal.returns-then-number-eq25
 returns-then-number-eq25 c =
-    λ n. detail_25 _ _ _ c.if-number-eq25.true (c.row_known.ensures ∙ known_is (net n c) c.args.p c.pre.1)
+    λ n. detail_25 _ _ _ c.if-number-eq25.true (c.row_known.ensures ∙ known_is (net n c.args.present c.args.subs.now c.args.neighbours.now c.args.known.now) c.args.p c.requires.1)
 
 pub returns : goal.returns
 returns c = λ n. detail_0 _ _ _ c.if-number-eq23.false c.if-number-eq24.false c.if-number-eq25.false

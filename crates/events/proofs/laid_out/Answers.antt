@@ -4,28 +4,28 @@ use Rattle.events.proofs.laid_out.Goals as goal
 
 pub returns-in-Skip : goal.returns-in-Skip
 unfolding fields_of
-returns-in-Skip c = rw c.enum_told-1.given.1 c.fields_mk.ensures
+returns-in-Skip c = rw c.in-Skip.is c.fields_mk.ensures
 
 pub returns-in-Produce : goal.returns-in-Produce
 unfolding fields_of
-returns-in-Produce c = rw c.e-1.given.1 c.fields_mk-in-Produce.ensures
+returns-in-Produce c = rw c.in-Produce.is c.fields_mk-in-Produce.ensures
 
 pub returns-in-Forward : goal.returns-in-Forward
 unfolding fields_of
-returns-in-Forward c = rw c.e-in-Forward-1.given.1 c.fields_mk-in-Forward.ensures
+returns-in-Forward c = rw c.in-Forward.is c.fields_mk-in-Forward.ensures
 
 pub returns-in-Subscribe : goal.returns-in-Subscribe
 unfolding fields_of
-returns-in-Subscribe c = rw c.e-in-Subscribe-1.given.1 c.fields_mk-in-Subscribe.ensures
+returns-in-Subscribe c = rw c.in-Subscribe.is c.fields_mk-in-Subscribe.ensures
 
 pub returns-in-Unsubscribe : goal.returns-in-Unsubscribe
 unfolding fields_of
-returns-in-Unsubscribe c = rw c.e-in-Unsubscribe-1.given.1 c.fields_mk-in-Unsubscribe.ensures
+returns-in-Unsubscribe c = rw c.in-Unsubscribe.is c.fields_mk-in-Unsubscribe.ensures
 
 pub returns-in-Leave : goal.returns-in-Leave
 unfolding fields_of
-returns-in-Leave c = rw c.e-in-Leave-1.given.1 c.fields_mk-in-Leave.ensures
+returns-in-Leave c = rw c.in-Leave.is c.fields_mk-in-Leave.ensures
 
 pub returns-in-Join : goal.returns-in-Join
 unfolding fields_of
-returns-in-Join c = rw c.e-in-Join-1.given.1 c.fields_mk-in-Join.ensures
+returns-in-Join c = rw c.in-Join.is c.fields_mk-in-Join.ensures

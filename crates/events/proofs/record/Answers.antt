@@ -5,4 +5,4 @@ use Rattle.events.proofs.record.Goals as goal
 
 pub returns : goal.returns
 unfolding record_of
-returns c = c.put_fields_lem.ensures ∙ cc
+returns c = c.put_fields.ensures ∙ cc

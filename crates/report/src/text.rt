@@ -1,6 +1,6 @@
 // Bytes and numbers written into the buffer from a place on; each function answers the place behind what it wrote (`Wrote` of specs/Write.antt).
 ghost use Rattle.std.specs.Prelude.{◌+◌, ◌≤◌, ◌<◌, length};
-ghost use Rattle.report.specs.Text.{decimal, spaced as spacedText, newline as newlineText};
+ghost use Rattle.report.specs.Text.{decimal, spaced as spaced_text, newline as newline_text};
 ghost use Rattle.report.specs.Write.{Wrote};
 
 // The bytes of s.
@@ -32,8 +32,8 @@ pub(crate) fn number(out: &mut [u8], at: usize, x: usize) -> usize
 
 // A space, then x in decimal.
 pub(crate) fn spaced(out: &mut [u8], at: usize, x: usize) -> usize
-    requires { at + length (spacedText x) ≤ length out.old }
-    ensures { Wrote out.old at (spacedText x) out.new result }
+    requires { at + length (spaced_text x) ≤ length out.old }
+    ensures { Wrote out.old at (spaced_text x) out.new result }
 {
     out[at] = b' ';
     number(&mut *out, at + 1, x)
@@ -42,7 +42,7 @@ pub(crate) fn spaced(out: &mut [u8], at: usize, x: usize) -> usize
 // The end of a line.
 pub(crate) fn newline(out: &mut [u8], at: usize) -> usize
     requires { at < length out.old }
-    ensures { Wrote out.old at newlineText out.new result }
+    ensures { Wrote out.old at newline_text out.new result }
 {
     out[at] = b'\n';
     at + 1

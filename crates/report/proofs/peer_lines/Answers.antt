@@ -24,7 +24,7 @@ pub loop-left-preserved : goal.loop-left-preserved
 unfolding peer_line
 loop-left-preserved c =
     (
-      omega (arith, c.peer_line-next.auto.0, c.loop-left.invariant.0),
+      omega (arith, c.peer_line-next.auto.out, c.loop-left.invariant.0),
       lines_more c.loop-left.invariant.1 (search rules) c.lowest32-p.ensures.0 c.rest32-left.ensures.0 c.peer_line-next.ensures.0 c.peer_line-next.ensures.1,
     )
 

@@ -20,7 +20,7 @@ unfolding spaced
 number-requires c = simp length-set (omega arith)
 
 pub shape_of-out : goal.shape_of-out
-shape_of-out c = c.number.auto.0 ∙ simp length-set
+shape_of-out c = c.number.auto.out ∙ simp length-set
 
 pub returns : goal.returns
 unfolding spaced

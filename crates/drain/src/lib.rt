@@ -38,8 +38,8 @@ fn how_many(w: u64) -> u32
 
 // How many pairs are pending.
 fn waiting(pending: &[u64; 32]) -> u32
-    ensures value { result ≡ waiting_of pending.now }
-    ensures result_value { eqb result 0 ≡ empty_words pending.now }
+    ensures count { result ≡ waiting_of pending.now }
+    ensures none { eqb result 0 ≡ empty_words pending.now }
 {
     let mut total: u32 = 0;
     for p in 0..32 {
@@ -151,7 +151,7 @@ fn drain_peer(
     requires by_index { (i : ℕ) → get_or topics.now i 0 < 32 }
     requires own_topics { OwnTopics topics.now words.now }
     requires all_filed { AllFiled topics.now words.now used todo }
-    ensures value { result ≡ length (take left (pairs_of p.0 todo 64)) }
+    ensures made { result ≡ length (take left (pairs_of p.0 todo 64)) }
     ensures leads { Leads known.now topics.now pending.old seen.old (take left (pairs_of p.0 todo 64))
         pending.new seen.new }
 {
@@ -200,7 +200,7 @@ fn drain_listed(
     requires by_index { (i : ℕ) → get_or topics.now i 0 < 32 }
     requires own_topics { OwnTopics topics.now words.now }
     requires each_filed { EachFiled topics.now words.now used listed.now }
-    ensures value { result ≡ length (take left (list_of listed.now 32)) }
+    ensures made { result ≡ length (take left (list_of listed.now 32)) }
     ensures leads { Leads known.now topics.now pending.old seen.old
         (take left (list_of listed.now 32)) pending.new seen.new }
 {
@@ -237,7 +237,7 @@ fn drain_round(
     requires by_index { (i : ℕ) → get_or topics.now i 0 < 32 }
     requires own_topics { OwnTopics topics.now words.now }
     requires each_filed { EachFiled topics.now words.now used pending.old }
-    ensures value { result ≡ length (take left (list_of pending.old 32)) }
+    ensures made { result ≡ length (take left (list_of pending.old 32)) }
     ensures leads { Leads known.now topics.now pending.old seen.old
         (take left (list_of pending.old 32)) pending.new seen.new }
 {

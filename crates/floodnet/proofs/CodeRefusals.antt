@@ -30,12 +30,12 @@ unfolding need
 need_holds b k r e h = h ∙ ap (λ (x : Bool). need x k r) (sym e)
 
 -- the test `!r`, where r is the condition t
-pub test_fails : {r t : Bool} → r ≡ t → not r ≡ true → t ≡ false
-test_fails {r} h e = sym h ∙ not-true r e
+pub test_fails : {r t : Bool} → r ≡ t → r ≡ false → t ≡ false
+test_fails h e = sym h ∙ e
 
 -- the test `!r` is false: t is true
-pub test_holds : {r t : Bool} → r ≡ t → not r ≡ false → t ≡ true
-test_holds {r} h e = sym h ∙ not-false r e
+pub test_holds : {r t : Bool} → r ≡ t → r ≡ true → t ≡ true
+test_holds h e = sym h ∙ e
 
 -- the test `r`, where the condition is that t is false
 pub test_bars : {r t : Bool} → r ≡ t → r ≡ true → not t ≡ false

@@ -44,11 +44,11 @@ pub fn step(
     e: Event,
 ) -> Turned
     requires { EventFits e × Rows (table topics.now origins.now) }
-    ensures known_after { (n : Network) → with_all n present.new pubs.new subs.new neighbours.new pending.new
+    ensures state { (n : Network) → with_all n present.new pubs.new subs.new neighbours.new pending.new
         seen.new known.new ≡ after
         (with_all n present.old pubs.old subs.old neighbours.old pending.old
         seen.old known.old) (table topics.now origins.now) e }
-    ensures value { (n : Network) → result ≡ turned_of
+    ensures answer { (n : Network) → result ≡ turned_of
         (with_all n present.old pubs.old subs.old neighbours.old pending.old
         seen.old known.old) (table topics.now origins.now) e }
 {

@@ -30,9 +30,9 @@ pub fn forward(
     m: Message,
 ) -> u32
     requires { (p.0 < 32) × (m.0 < 64) × (get_or topics.now m.0 0 < 32) }
-    ensures value { (n : Network) (origins : List ℕ) → result ≡ receivers (with_messages n pending.old seen.old known.now)
+    ensures answer { (n : Network) (origins : List ℕ) → result ≡ receivers (with_messages n pending.old seen.old known.now)
         (table topics.now origins) p m }
-    ensures known_after { (n : Network) (origins : List ℕ) → with_messages n pending.new seen.new known.now ≡ forwarded
+    ensures state { (n : Network) (origins : List ℕ) → with_messages n pending.new seen.new known.now ≡ forwarded
         (with_messages n pending.old seen.old known.now) (table topics.now origins) p m }
 {
     let i = p.0 as usize;

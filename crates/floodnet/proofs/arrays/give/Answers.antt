@@ -7,18 +7,14 @@ use Rattle.sets.specs.laws.Sizes.{size_less}
 use Rattle.lists.specs.laws.Visit.{Visiting, visiting_none, visiting_wide, visiting_done}
 use Rattle.floodnet.proofs.arrays.give.Goals as goal
 
--- the peer found is one of 32
-small : (c : tie.After-lowest64 invariant-loop decreases-loop) → c.lowest64-q.result < 32
-small c = (least_narrow (search rules) c.loop-left.invariant.below c.lowest64-q.ensures.0).1
-
 pub loop-left-init : goal.loop-left-init
 loop-left-init c = visiting_none 32 _ _ _ (search rules)
 
 pub bounds-pending-q : goal.bounds-pending-q
-bounds-pending-q c = small c
+bounds-pending-q c = (least_narrow (search rules) c.loop-left.invariant.below c.lowest64-q.ensures.0).1
 
 pub bounds-pending-q-in-loop-left : goal.bounds-pending-q-in-loop-left
-bounds-pending-q-in-loop-left c = small c
+bounds-pending-q-in-loop-left c = (least_narrow (search rules) c.loop-left.invariant.below c.lowest64-q.ensures.0).1
 
 pub loop-left-smaller : goal.loop-left-smaller
 loop-left-smaller c = size_less 64 (search rules) (search rules) c.rest64-left.ensures.0

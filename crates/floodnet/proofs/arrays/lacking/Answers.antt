@@ -8,18 +8,14 @@ use Rattle.sets.specs.laws.Visits.{Visit, visit_none, visit_lt}
 use Rattle.floodnet.proofs.CodeArrays.{lacks, lacking_more, lacking_done}
 use Rattle.floodnet.proofs.arrays.lacking.Goals as goal
 
--- the peer found is one of 32
-small : (c : tie.After-lowest64 invariant-loop decreases-loop) → c.lowest64-q.result < 32
-small c = (least_narrow (search rules) c.loop-left.invariant.below c.lowest64-q.ensures.0).1
-
 pub loop-left-init : goal.loop-left-init
 loop-left-init c = visit_none _ _ _ (search rules)
 
 pub bounds-pending-q : goal.bounds-pending-q
-bounds-pending-q c = small c
+bounds-pending-q c = (least_narrow (search rules) c.loop-left.invariant.below c.lowest64-q.ensures.0).1
 
 pub bounds-seen-q : goal.bounds-seen-q
-bounds-seen-q c = small c
+bounds-seen-q c = (least_narrow (search rules) c.loop-left.invariant.below c.lowest64-q.ensures.0).1
 
 pub loop-left-smaller : goal.loop-left-smaller
 loop-left-smaller c = size_less 64 (search rules) (search rules) c.rest64-left.ensures.0

@@ -14,7 +14,7 @@ bounds-known-k c = omega (arith, ap (λ (t : Topic). t.0) c.topic_of.ensures)
 
 pub returns : goal.returns
 returns c =
-    (
-      receivers_law _ _ _ _ _ _ _ _ _ _ _ c.topic_of.ensures c.spot-k.ensures c.without64.ensures c.with64.ensures c.lacking-receivers.ensures,
-      forwarded_law _ _ _ _ _ _ _ _ _ _ _ c.topic_of.ensures c.spot-k.ensures c.without64.ensures c.with64.ensures c.lacking-receivers.ensures _ c.lacking-receivers.type_inv c.give.ensures,
-    )
+    record {
+      answer = receivers_law _ _ _ _ _ _ _ _ _ _ _ c.topic_of.ensures c.spot-k.ensures c.without64.ensures c.with64.ensures c.lacking-receivers.ensures;
+      state = forwarded_law _ _ _ _ _ _ _ _ _ _ _ c.topic_of.ensures c.spot-k.ensures c.without64.ensures c.with64.ensures c.lacking-receivers.ensures _ c.lacking-receivers.type_inv c.give.ensures;
+    }

@@ -15,5 +15,5 @@ returns-then-k-ne0 c = λ n os. stepped_refused _ (c.of_forward-k.ensures (with_
 pub returns : goal.returns
 unfolding refusal effect kind_of receivers_of
 returns c =
-    λ n os. stepped_done _ (c.of_forward-k.ensures (with_messages n [] _ _)) c.if-k-ne0.false (c.forward-receivers.ensures.1 (with_present n _) os) c.done.ensures
-    (c.forward-receivers.ensures.0 (with_present n _) os)
+    λ n os. stepped_done _ (c.of_forward-k.ensures (with_messages n [] _ _)) c.if-k-ne0.false (c.forward-receivers.ensures.state (with_present n _) os) c.done.ensures
+    (c.forward-receivers.ensures.answer (with_present n _) os)

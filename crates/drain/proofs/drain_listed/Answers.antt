@@ -23,22 +23,22 @@ overflow_sub-left c =
 pub drain_peer-made-requires : goal.drain_peer-made-requires
 drain_peer-made-requires c =
     let given = c.requires in
-    (search rules, (given.0, (given.1.0, given.1.1 _ (search rules))))
+    record { p_bound = search rules; by_index = given.by_index; own_topics = given.own_topics; all_filed = given.each_filed _ (search rules) }
 
 pub overflow_add-made : goal.overflow_add-made
 overflow_add-made c =
     omega (
       arith,
-      (peers_more _ _ _ _ _ (c.loop-p.invariant.1 bare []) refl (c.drain_peer-made.ensures.1 bare [])
-          c.drain_peer-made.ensures.0).within,
+      (peers_more _ _ _ _ _ (c.loop-p.invariant.1 bare []) refl (c.drain_peer-made.ensures.leads bare [])
+          c.drain_peer-made.ensures.made).within,
     )
 
 pub loop-p-preserved : goal.loop-p-preserved
 loop-p-preserved c =
-    (omega arith, λ n os. peers_more _ _ _ _ _ (c.loop-p.invariant.1 n os) refl (c.drain_peer-made.ensures.1 n os) c.drain_peer-made.ensures.0)
+    (omega arith, λ n os. peers_more _ _ _ _ _ (c.loop-p.invariant.1 n os) refl (c.drain_peer-made.ensures.leads n os) c.drain_peer-made.ensures.made)
 
 pub returns : goal.returns
 returns c =
     let e : c.loop-p.p ≡ 32 = omega arith in
     let v = rw e at c.loop-p.invariant.1 in
-    ((v bare []).count, λ n os. (v n os).state)
+    record { made = (v bare []).count; leads = λ n os. (v n os).state }

@@ -3,17 +3,18 @@ use borrow.Author.Rules.{rules}
 use mathlib.Core.Logic.{⊎_elim}
 use Rattle.drain.proofs.AtOnce.{Spreading, spreading_none, spreading_more, spreading_skip, spreading_done}
 use Rattle.drain.proofs.forward_set.Goals as goal
+use Rattle.drain.proofs.forward_set.Goals.{then-w-ne0, else-w-ne0}
 
 pub loop-left-init : goal.loop-left-init
-loop-left-init c = spreading_none (search rules) c.requires.1.1 (search rules) _
+loop-left-init c = spreading_none (search rules) c.requires.all_filed (search rules) _
 
 pub loop-left-preserved : goal.loop-left-preserved
 loop-left-preserved c =
     let v = c.loop-left.invariant in
-    ⊎_elim
-    (λ w. rw w.5 (spreading_more (search rules) c.requires.1.1 c.requires.1.0 v (search rules) c.lowest32-t.ensures.0 c.rest32-left.ensures.0 c.meet64-w.ensures w.4.ensures.1 w.4.ensures.0))
-    (λ w. rw w.1 (spreading_skip (search rules) c.requires.1.1 c.requires.1.0 v (search rules) c.lowest32-t.ensures.0 c.rest32-left.ensures.0 c.meet64-w.ensures w.0.left))
-    c.if-w-ne0.branch
+    elim c.if-w-ne0.branch [
+      then-w-ne0 w ↦ rw w.pending-is (spreading_more (search rules) c.requires.all_filed c.requires.own_topics v (search rules) c.lowest32-t.ensures.0 c.rest32-left.ensures.0 c.meet64-w.ensures w.give_set.ensures.s_bound w.give_set.ensures.pending_after)
+      | else-w-ne0 w ↦ rw w.pending-is (spreading_skip (search rules) c.requires.all_filed c.requires.own_topics v (search rules) c.lowest32-t.ensures.0 c.rest32-left.ensures.0 c.meet64-w.ensures w.if-w-ne0.false)
+    ]
 
 pub returns : goal.returns
 returns c =

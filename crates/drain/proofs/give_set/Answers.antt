@@ -10,21 +10,17 @@ use Rattle.lists.specs.laws.Visit.{Visiting, visiting_none, visiting_wide, visit
 use Rattle.drain.specs.AtOnce.{gives}
 use Rattle.drain.proofs.give_set.Goals as goal
 
--- the peer taken is one of 32
-small : (c : tie.After-lowest64 invariant-loop decreases-loop) → c.lowest64-q.result < 32
-small c = (least_narrow (search rules) c.loop-left.invariant.below c.lowest64-q.ensures.0).1
-
 pub loop-left-init : goal.loop-left-init
 loop-left-init c = visiting_none 32 _ _ _ (search rules)
 
 pub bounds-pending-q : goal.bounds-pending-q
-bounds-pending-q c = small c
+bounds-pending-q c = (least_narrow (search rules) c.loop-left.invariant.below c.lowest64-q.ensures.0).1
 
 pub bounds-seen-q : goal.bounds-seen-q
-bounds-seen-q c = small c
+bounds-seen-q c = (least_narrow (search rules) c.loop-left.invariant.below c.lowest64-q.ensures.0).1
 
 pub bounds-pending-q-in-loop-left : goal.bounds-pending-q-in-loop-left
-bounds-pending-q-in-loop-left c = small c
+bounds-pending-q-in-loop-left c = (least_narrow (search rules) c.loop-left.invariant.below c.lowest64-q.ensures.0).1
 
 pub loop-left-smaller : goal.loop-left-smaller
 loop-left-smaller c = size_less 64 (search rules) (search rules) c.rest64-left.ensures.0
@@ -37,4 +33,7 @@ loop-left-preserved c =
 
 pub returns : goal.returns
 unfolding gives
-returns c = (visiting_done c.loop-left.invariant c.loop-left-test.false ∙ visits_edit _ 32 _ _ (search rules), search rules)
+returns c = record {
+  pending_after = visiting_done c.loop-left.invariant c.loop-left-test.false ∙ visits_edit _ 32 _ _ (search rules);
+  s_bound = search rules;
+}

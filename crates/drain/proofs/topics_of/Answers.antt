@@ -6,22 +6,18 @@ use lib.ListN.{get_or}
 use Rattle.drain.proofs.Filing.{Using, using_none, using_more, using_done}
 use Rattle.drain.proofs.topics_of.Goals as goal
 
--- its topic is one of the 32
-small : (c : tie.After-lowest64 invariant-loop decreases-loop) → get_or c.args.topics.now c.lowest64-m.result 0 < 32
-small c = c.requires _
-
 pub loop-left-init : goal.loop-left-init
 loop-left-init c = using_none _ _ (search rules)
 
 pub overflow_cast-topics : goal.overflow_cast-topics
-overflow_cast-topics c = omega (arith, small c)
+overflow_cast-topics c = omega (arith, c.requires c.lowest64-m.result)
 
 pub with32-r-requires : goal.with32-r-requires
-with32-r-requires c = small c
+with32-r-requires c = c.requires _
 
 pub loop-left-preserved : goal.loop-left-preserved
 loop-left-preserved c =
-    using_more c.loop-left.invariant (search rules) c.lowest64-m.ensures.0 c.rest64-left.ensures.0 (small c) c.with32-r.ensures
+    using_more c.loop-left.invariant (search rules) c.lowest64-m.ensures.0 c.rest64-left.ensures.0 (c.requires _) c.with32-r.ensures
 
 pub returns : goal.returns
 returns c = using_done c.loop-left.invariant c.loop-left-test.false

@@ -39,4 +39,4 @@ pub returns : goal.returns
 unfolding waiting_of
 returns c =
     let e : c.loop-p.p ≡ 32 = omega arith in
-    (rw e at c.loop-p.invariant.1, rw e at c.loop-p.invariant.3)
+    record { count = rw e at c.loop-p.invariant.1; none = rw e at c.loop-p.invariant.3 }

@@ -90,9 +90,9 @@ after_named b n (pair p m ∷ l) = after_named b (forwarded n b (peer p) (messag
 
 pub accepted_named : {b : Table} {n : Network} → Sound n → Rows b → (l : List Pair) → Accepts (view b) (fwd b) n l → Accepted b n (named l)
 unfolding view fwd
-accepted_named s rows [] a = tt
+accepted_named {b} {n} s rows [] a = tt
 accepted_named {b} {n} s rows (pair p m ∷ l) a =
-    (pending_accepted s (peer p) (message m) a.0, accepted_named (forwarded_sound s rows (peer p) (message m) a.0) rows l a.1)
+    (pending_accepted s (peer p) (message m) a.0, accepted_named {b = b} {n = forwarded n b (peer p) (message m)} (forwarded_sound s rows (peer p) (message m) a.0) rows l a.1)
 
 -- ---- a round
 

@@ -2,7 +2,7 @@
 use Rattle.std.specs.Prelude.{◌≡◌, ◌⊎◌, ◌↔◌, true, false, not, List, ℕ, ◌<◌, ◌^◌, get_or}
 use Rattle.std.proofs.Math.Path.{refl}
 use Rattle.std.proofs.Common.{sym, ap, ◌∙◌, inl, inr, arith}
-use Rattle.std.proofs.Math.Logic.{Iff·rfl, Iff·trans, Iff·and}
+use Rattle.std.proofs.Math.Logic as logic
 use Rattle.std.proofs.Math.Bool.{Bool}
 use Rattle.std.proofs.Math.Dec.{eqb}
 use Rattle.sets.specs.laws.Bools.{clash, not_false, and_yes, or_yes}
@@ -59,11 +59,11 @@ module _ {n : Network} (s : Sound n) (m : Message) where
 -- the peers of `who` are present, or one is not
 present_if : (n : Network) (who : ℕ) → (eqb (minus who n.present) 0 ≡ true) ↔ ((q : ℕ) → has who q ≡ true → present n (peer q) ≡ true)
 unfolding Subset
-present_if n who = Iff·trans eq_if (subset_of_minus who n.present, minus_of_subset who n.present)
+present_if n who = logic.Iff.trans eq_if (subset_of_minus who n.present, minus_of_subset who n.present)
 
 absent_if : (n : Network) (who : ℕ) → (eqb (minus who n.present) 0 ≡ false) ↔ ((q : ℕ) × (has who q ≡ true) × (present n (peer q) ≡ false))
 absent_if n who =
-    Iff·trans ne_if (Iff·trans some_if
+    logic.Iff.trans ne_if (logic.Iff.trans some_if
     ((λ x. let y = (at x.0).0 x.1 in (x.0, y.0, y.1)), λ x. (x.0, (at x.0).1 (x.1, x.2))))
   where
     at : (q : ℕ) → (has (minus who n.present) q ≡ true) ↔ ((has who q ≡ true) × (present n (peer q) ≡ false))
@@ -94,19 +94,19 @@ module _ {n : Network} {b : Table} (s : Sound n) (rows : Rows b) where
       let new : Bool = is_new n m in
       record {
         refused_8 = need_is (present n p) 8 _ (need_not own 10 _ 8 (λ e. omega arith) (need_not pubs 11 _ 8 (λ e. omega arith) (need_not new 12 0 8 (λ e. omega arith) (λ e. omega arith))));
-        refused_10 = Iff·trans (need_on (present n p) 8 _ 10 (λ e. omega arith)) (Iff·and Iff·rfl
-            (Iff·trans (need_is own 10 _ (need_not pubs 11 _ 10 (λ e. omega arith) (need_not new 12 0 10 (λ e. omega arith) (λ e. omega arith)))) ne_if));
-        refused_11 = three (Iff·trans (need_on (present n p) 8 _ 11 (λ e. omega arith)) (Iff·and Iff·rfl
-            (Iff·trans (need_on own 10 _ 11 (λ e. omega arith)) (Iff·and eq_if
+        refused_10 = logic.Iff.trans (need_on (present n p) 8 _ 10 (λ e. omega arith)) (logic.Iff.and logic.Iff.rfl
+            (logic.Iff.trans (need_is own 10 _ (need_not pubs 11 _ 10 (λ e. omega arith) (need_not new 12 0 10 (λ e. omega arith) (λ e. omega arith)))) ne_if));
+        refused_11 = three (logic.Iff.trans (need_on (present n p) 8 _ 11 (λ e. omega arith)) (logic.Iff.and logic.Iff.rfl
+            (logic.Iff.trans (need_on own 10 _ 11 (λ e. omega arith)) (logic.Iff.and eq_if
             (need_is pubs 11 _ (need_not new 12 0 11 (λ e. omega arith) (λ e. omega arith)))))));
-        refused_12 = four (Iff·trans (need_on (present n p) 8 _ 12 (λ e. omega arith)) (Iff·and Iff·rfl
-            (Iff·trans (need_on own 10 _ 12 (λ e. omega arith)) (Iff·and eq_if
-            (Iff·trans (need_on pubs 11 _ 12 (λ e. omega arith)) (Iff·and Iff·rfl
-            (Iff·trans (need_is new 12 0 (λ e. omega arith)) (old_if s m))))))));
-        accepted = four (Iff·trans (need_on (present n p) 8 _ 0 (λ e. omega arith)) (Iff·and Iff·rfl
-            (Iff·trans (need_on own 10 _ 0 (λ e. omega arith)) (Iff·and eq_if
-            (Iff·trans (need_on pubs 11 _ 0 (λ e. omega arith)) (Iff·and Iff·rfl
-            (Iff·trans (need_on new 12 0 0 (λ e. omega arith)) (need_last (new_if s m)))))))));
+        refused_12 = four (logic.Iff.trans (need_on (present n p) 8 _ 12 (λ e. omega arith)) (logic.Iff.and logic.Iff.rfl
+            (logic.Iff.trans (need_on own 10 _ 12 (λ e. omega arith)) (logic.Iff.and eq_if
+            (logic.Iff.trans (need_on pubs 11 _ 12 (λ e. omega arith)) (logic.Iff.and logic.Iff.rfl
+            (logic.Iff.trans (need_is new 12 0 (λ e. omega arith)) (old_if s m))))))));
+        accepted = four (logic.Iff.trans (need_on (present n p) 8 _ 0 (λ e. omega arith)) (logic.Iff.and logic.Iff.rfl
+            (logic.Iff.trans (need_on own 10 _ 0 (λ e. omega arith)) (logic.Iff.and eq_if
+            (logic.Iff.trans (need_on pubs 11 _ 0 (λ e. omega arith)) (logic.Iff.and logic.Iff.rfl
+            (logic.Iff.trans (need_on new 12 0 0 (λ e. omega arith)) (need_last (new_if s m)))))))));
         does = λ z.
             record {
               now_pending = λ q k. by (produced_pending s.shaped p m hp q k) (or_if yes_if (and_if eq_if eq_if));
@@ -140,8 +140,8 @@ module _ {n : Network} {b : Table} (s : Sound n) (rows : Rows b) where
   forward_page p m hp =
       record {
         refused_8 = need_is (present n p) 8 _ (need_not _ 13 0 8 (λ e. omega arith) (λ e. omega arith));
-        refused_13 = Iff·trans (need_on (present n p) 8 _ 13 (λ e. omega arith)) (Iff·and Iff·rfl (need_is _ 13 0 (λ e. omega arith)));
-        accepted = Iff·trans (need_on (present n p) 8 _ 0 (λ e. omega arith)) (Iff·and Iff·rfl (Iff·trans (need_on _ 13 0 0 (λ e. omega arith)) (need_last Iff·rfl)));
+        refused_13 = logic.Iff.trans (need_on (present n p) 8 _ 13 (λ e. omega arith)) (logic.Iff.and logic.Iff.rfl (need_is _ 13 0 (λ e. omega arith)));
+        accepted = logic.Iff.trans (need_on (present n p) 8 _ 0 (λ e. omega arith)) (logic.Iff.and logic.Iff.rfl (logic.Iff.trans (need_on _ 13 0 0 (λ e. omega arith)) (need_last logic.Iff.rfl)));
         does = λ z.
             record {
               now_seen = λ q k. by (forwarded_saw s.shaped b p m hp q k) (or_if yes_if (and_if eq_if eq_if));
@@ -161,7 +161,7 @@ module _ {n : Network} {b : Table} (s : Sound n) (rows : Rows b) where
   subscribe_page p topics hp =
       record {
         refused_8 = need_is (present n p) 8 0 (λ e. omega arith);
-        accepted = Iff·trans (need_on (present n p) 8 0 0 (λ e. omega arith)) (need_last Iff·rfl);
+        accepted = logic.Iff.trans (need_on (present n p) 8 0 0 (λ e. omega arith)) (need_last logic.Iff.rfl);
         does = λ z.
             let r : SameButTopics n (subscribed_to n p topics) = subscribed_rest n p topics in
             record {
@@ -180,7 +180,7 @@ module _ {n : Network} {b : Table} (s : Sound n) (rows : Rows b) where
   unsubscribe_page p topics hp =
       record {
         refused_8 = need_is (present n p) 8 0 (λ e. omega arith);
-        accepted = Iff·trans (need_on (present n p) 8 0 0 (λ e. omega arith)) (need_last Iff·rfl);
+        accepted = logic.Iff.trans (need_on (present n p) 8 0 0 (λ e. omega arith)) (need_last logic.Iff.rfl);
         does = λ z.
             let r : SameButTopics n (unsubscribed_from n p topics) = unsubscribed_rest n p topics in
             record {
@@ -199,9 +199,9 @@ module _ {n : Network} {b : Table} (s : Sound n) (rows : Rows b) where
   leave_page p =
       record {
         refused_8 = need_is (present n p) 8 _ (need_not _ 14 0 8 (λ e. omega arith) (λ e. omega arith));
-        refused_14 = Iff·trans (need_on (present n p) 8 _ 14 (λ e. omega arith)) (Iff·and Iff·rfl (Iff·trans (need_is _ 14 0 (λ e. omega arith)) (Iff·trans ne_if some_if)));
-        accepted = Iff·trans (need_on (present n p) 8 _ 0 (λ e. omega arith)) (Iff·and Iff·rfl
-            (Iff·trans (need_on _ 14 0 0 (λ e. omega arith)) (need_last (Iff·trans eq_if empty_if))));
+        refused_14 = logic.Iff.trans (need_on (present n p) 8 _ 14 (λ e. omega arith)) (logic.Iff.and logic.Iff.rfl (logic.Iff.trans (need_is _ 14 0 (λ e. omega arith)) (logic.Iff.trans ne_if some_if)));
+        accepted = logic.Iff.trans (need_on (present n p) 8 _ 0 (λ e. omega arith)) (logic.Iff.and logic.Iff.rfl
+            (logic.Iff.trans (need_on _ 14 0 0 (λ e. omega arith)) (need_last (logic.Iff.trans eq_if empty_if))));
         does = λ z.
             record {
               now_present = λ q. by (present_left n p q) (and_if yes_if (not_if eq_if));
@@ -237,15 +237,15 @@ module _ {n : Network} {b : Table} (s : Sound n) (rows : Rows b) where
     unfolding refusal effect refusal_join
     join_page =
         record {
-          refused_9 = Iff·trans (need_is (not (present n p)) 9 _ (need_not _ 15 _ 9 (λ e. omega arith) (need_not _ 16 0 9 (λ e. omega arith) (λ e. omega arith)))) yes_not;
-          refused_15 = Iff·trans (need_on (not (present n p)) 9 _ 15 (λ e. omega arith)) (Iff·and no_if
-              (Iff·trans (need_is _ 15 _ (need_not _ 16 0 15 (λ e. omega arith) (λ e. omega arith))) yes_not));
-          refused_16 = three (Iff·trans (need_on (not (present n p)) 9 _ 16 (λ e. omega arith)) (Iff·and no_if
-              (Iff·trans (need_on _ 15 _ 16 (λ e. omega arith)) (Iff·and no_if
-              (Iff·trans (need_is _ 16 0 (λ e. omega arith)) (absent_if n j.neighbours))))));
-          accepted = three (Iff·trans (need_on (not (present n p)) 9 _ 0 (λ e. omega arith)) (Iff·and no_if
-              (Iff·trans (need_on _ 15 _ 0 (λ e. omega arith)) (Iff·and no_if
-              (Iff·trans (need_on _ 16 0 0 (λ e. omega arith)) (need_last (present_if n j.neighbours)))))));
+          refused_9 = logic.Iff.trans (need_is (not (present n p)) 9 _ (need_not _ 15 _ 9 (λ e. omega arith) (need_not _ 16 0 9 (λ e. omega arith) (λ e. omega arith)))) yes_not;
+          refused_15 = logic.Iff.trans (need_on (not (present n p)) 9 _ 15 (λ e. omega arith)) (logic.Iff.and no_if
+              (logic.Iff.trans (need_is _ 15 _ (need_not _ 16 0 15 (λ e. omega arith) (λ e. omega arith))) yes_not));
+          refused_16 = three (logic.Iff.trans (need_on (not (present n p)) 9 _ 16 (λ e. omega arith)) (logic.Iff.and no_if
+              (logic.Iff.trans (need_on _ 15 _ 16 (λ e. omega arith)) (logic.Iff.and no_if
+              (logic.Iff.trans (need_is _ 16 0 (λ e. omega arith)) (absent_if n j.neighbours))))));
+          accepted = three (logic.Iff.trans (need_on (not (present n p)) 9 _ 0 (λ e. omega arith)) (logic.Iff.and no_if
+              (logic.Iff.trans (need_on _ 15 _ 0 (λ e. omega arith)) (logic.Iff.and no_if
+              (logic.Iff.trans (need_on _ 16 0 0 (λ e. omega arith)) (need_last (present_if n j.neighbours)))))));
           does = λ z. let x = join_met n p j.neighbours z in join_does x.0 x.1 x.2;
         }
 

@@ -1,4 +1,3 @@
-pub mod TallyLent
 pub mod AloneLaws
 pub mod ImagingLaws
 pub mod Lent

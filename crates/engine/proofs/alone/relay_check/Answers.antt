@@ -6,4 +6,4 @@ use Rattle.engine.proofs.Lent.{looked_is}
 use Rattle.engine.proofs.alone.relay_check.Goals as goal
 
 pub returns : goal.returns
-returns c = c.answer.ensures ∙ check_is _ (looked_is _ c.«open».ensures)
+returns c = c.answer.ensures ∙ check_is _ (looked_is _ c.open-opened.ensures)

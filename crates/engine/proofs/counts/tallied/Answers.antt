@@ -14,32 +14,24 @@ use Rattle.engine.specs.declared.Tally.{Tally}
 use Rattle.engine.specs.Run.{tallied_of}
 use Rattle.engine.proofs.counts.tallied.Goals as goal
 
--- produce and forward stand at places 1 and 2 of the enum, and the other kinds do not
-none_of : (x : ℕ) → 0 < x → x < 3 → OneOf (0 ∷ 3 ∷ 4 ∷ 5 ∷ 6 ∷ []) x → ⊥
-none_of x a b (inl h) = omega arith
-none_of x a b (inr (inl h)) = omega arith
-none_of x a b (inr (inr (inl h))) = omega arith
-none_of x a b (inr (inr (inr (inl h)))) = omega arith
-none_of x a b (inr (inr (inr (inr h)))) = omega arith
-
 -- the five other kinds count for nothing
-others : (t : Tally) (kind : Kind) (d : ℕ) → OneOf (0 ∷ 3 ∷ 4 ∷ 5 ∷ 6 ∷ []) (tag_of declared.the_type kind) → t ≡ tallied_of t kind d
+others : (t : Tally) (kind : Kind) (d : ℕ) → (kind ≡ Produce → ⊥) → (kind ≡ Forward → ⊥) → t ≡ tallied_of t kind d
 unfolding tallied_of
-others t Skip d h = refl
-others t Produce d h = absurd (none_of 1 (omega arith) (omega arith) h)
-others t Forward d h = absurd (none_of 2 (omega arith) (omega arith) h)
-others t Subscribe d h = refl
-others t Unsubscribe d h = refl
-others t Leave d h = refl
-others t Join d h = refl
+others t Skip d a b = refl
+others t Produce d a b = absurd (a refl)
+others t Forward d a b = absurd (b refl)
+others t Subscribe d a b = refl
+others t Unsubscribe d a b = refl
+others t Leave d a b = refl
+others t Join d a b = refl
 
 pub returns-in-Produce : goal.returns-in-Produce
 unfolding tallied_of
-returns-in-Produce c = rw c.enum_told-1.given.1
+returns-in-Produce c = rw c.in-Produce.is
 
 pub returns-in-Forward : goal.returns-in-Forward
 unfolding tallied_of
-returns-in-Forward c = rw c.enum_told-in-Forward-1.given.1
+returns-in-Forward c = rw c.in-Forward.is
 
 pub returns-in_default : goal.returns-in_default
-returns-in_default c = others _ _ _ c.in_default.keys3
+returns-in_default c = others _ _ _ c.in_default.not-Produce c.in_default.not-Forward

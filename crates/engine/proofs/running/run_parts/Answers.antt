@@ -16,20 +16,12 @@ use Rattle.engine.proofs.RunEnds.{runs_as}
 use Rattle.engine.proofs.RunTurns.{ran_stop, ran_on, ran_end}
 use Rattle.engine.proofs.running.run_parts.Goals as goal
 
--- the event bytes are fewer than 2 ^ 63
-small : (h : tie.At-loop invariant-loop decreases-loop) → 32 * (length (start h).args.events.now / 16) < 2 ^ 64
-small h = omega (arith, (start h).well_formed.1.1.1.1.1.1.1.1.1.0.1)
-
--- the receivers that a turn answers are a word of 32 bits, and so 32 at most
-few : (u : tie.After-turn invariant-loop decreases-loop) → size u.turn.result.receivers ≤ 32
-few u = size_le 32 _ u.turn.type_inv.1.1.1.1.0.1
-
 pub loop-place-init : goal.loop-place-init
 loop-place-init c = λ n. going_start _ _ _ _
 
 pub turn-turned-requires : goal.turn-turned-requires
 turn-turned-requires c =
-    (rw (read_is _ _ _ c.event_at.ensures) (reads_fit _ (λ i. (c.shared_slice_known-1.given i).fits) _), c.requires)
+    (rw (read_is _ _ _ c.event_at.ensures) (reads_fit _ (λ i. (c.type_inv.events i).fits) _), c.requires)
 
 pub returns-then-number-ne0 : goal.returns-then-number-ne0
 unfolding run_all
@@ -38,18 +30,18 @@ returns-then-number-ne0 c =
 
 pub count_in-requires : goal.count_in-requires
 count_in-requires c =
-    going_room _ _ _ (c.loop-place.invariant bare) c.loop-place-test.taken (small c) _ (few c)
+    going_room _ _ _ (c.loop-place.invariant bare) c.loop-place-test.true (omega arith) _ (size_le 32 _ (search rules))
 
 pub overflow_add-place : goal.overflow_add-place
 overflow_add-place c =
-    record { fits = omega (arith, c.loop-place-test.taken, small c) }
+    omega arith
 
 pub loop-place-smaller : goal.loop-place-smaller
-loop-place-smaller c = omega (arith, c.loop-place-test.taken)
+loop-place-smaller c = omega (arith, c.loop-place-test.true)
 
 pub loop-place-preserved : goal.loop-place-preserved
 loop-place-preserved c =
-    λ n. ran_on _ _ _ (c.loop-place.invariant n) c.loop-place-test.taken (read_is _ _ _ c.event_at.ensures) _ _ (c.turn-turned.ensures n) c.if-number-ne0.false (few c) _ c.count_in.ensures
+    λ n. ran_on _ _ _ (c.loop-place.invariant n) c.loop-place-test.true (read_is _ _ _ c.event_at.ensures) _ _ (c.turn-turned.ensures n) c.if-number-ne0.false (size_le 32 _ (search rules)) _ c.count_in.ensures
 
 pub returns : goal.returns
 unfolding run_all

@@ -19,7 +19,7 @@ pub returns-then-listed-ne0 : goal.returns-then-listed-ne0
 returns-then-listed-ne0 c = starts_refused _ _ _ _ _ _ _ (ne_eqb c.if-listed-ne0.true) c.unstarted-then-listed-ne0.ensures (begin_4 _ _ _ c.if-state-ne5120.false c.if-table-ne256.false c.if-events-ne0.false c.read_table-listed.ensures c.if-listed-ne0.true)
 
 pub returns-then-looked-ne0 : goal.returns-then-looked-ne0
-returns-then-looked-ne0 c = starts_refused _ _ _ _ _ _ _ (ne_eqb c.if-looked-ne0.true) c.unstarted-then-looked-ne0.ensures (starts_unsound _ _ _ c.if-state-ne5120.false c.if-table-ne256.false c.if-events-ne0.false c.read_table-listed.ensures c.if-listed-ne0.false c.«open».ensures c.if-looked-ne0.true)
+returns-then-looked-ne0 c = starts_refused _ _ _ _ _ _ _ (ne_eqb c.if-looked-ne0.true) c.unstarted-then-looked-ne0.ensures (starts_unsound _ _ _ c.if-state-ne5120.false c.if-table-ne256.false c.if-events-ne0.false c.read_table-listed.ensures c.if-listed-ne0.false c.open-looked.ensures c.if-looked-ne0.true)
 
 pub returns : goal.returns
-returns c = starts_0 _ _ _ c.if-state-ne5120.false c.if-table-ne256.false c.if-events-ne0.false c.read_table-listed.ensures c.if-listed-ne0.false c.«open».ensures c.if-looked-ne0.false
+returns c = starts_0 _ _ _ c.if-state-ne5120.false c.if-table-ne256.false c.if-events-ne0.false c.read_table-listed.ensures c.if-listed-ne0.false c.open-looked.ensures c.if-looked-ne0.false

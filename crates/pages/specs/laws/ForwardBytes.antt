@@ -128,10 +128,10 @@ records_read (by p m ∷ l) k =
 -- Accepted forwards are in range.
 in_range : {b : Table} {n : Network} → Sound n → Rows b → (l : List Forward) → Accepted b n l → InRange l
 unfolding after
-in_range s rows [] a = tt
+in_range {b} {n} s rows [] a = tt
 in_range {b} {n} s rows (by p m ∷ l) a =
     let e = accepted_pending n p m a.0 in
-    (pending_peer s.shaped p m e, pending_message s.shaped p m e, in_range ((reach s rows).stays_sound (by p m ∷ []) (a.0, tt)) rows l a.1)
+    (pending_peer s.shaped p m e, pending_message s.shaped p m e, in_range {b = b} {n = after b n (by p m ∷ [])} ((reach s rows).stays_sound (by p m ∷ []) (a.0, tt)) rows l a.1)
 
 -- EVERY LIST OF ACCEPTED FORWARDS IS A RUN, which answers 0 and leaves what the page says.
 pub records_run : (s t : List ℕ) (old : Tally) (l : List Forward) → Bytes s → (begin_of s t 0).number ≡ 0 → Accepted (begin_of s t 0).table (begin_of s t 0).network l

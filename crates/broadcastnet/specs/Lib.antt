@@ -2,4 +2,3 @@ pub mod Broadcast
 pub mod Commit
 pub mod Page
 pub mod Unchanged
-pub mod laws

@@ -1,7 +1,7 @@
 -- THE CLIENT'S PAGE: demand 2 of the minutes, "Seen through the commitment map, it is one Broadcastnet step or no change, as tabled."
 -- The table is document 01's ("Commitment map"). n is the network before an event, o the network after it; Broadcastnet's state and steps
 -- are in specs/Broadcast.antt, the image in specs/Commit.antt. An event that fits has its numbers in range, as every event that is read; it is
--- accepted where `refusal` is 0. specs/laws/Refines.antt proves the whole page. Assumes nothing.
+-- accepted where `refusal` is 0. proofs/laws/Refines.antt proves the whole page. Assumes nothing.
 -- How to read it: `x ≡ y`: x is y; `≡ true`: it holds; `×`: and, or, with a name in front, there is; `⊎`: or; `→`: then; `→ ⊥`: never.
 use Rattle.std.specs.Prelude.{◌≡◌, true, false, List, [], ◌∷◌, ℕ}
 use Rattle.sets.specs.Set.{has}

@@ -4,8 +4,8 @@
 // It promises demand 2's second sentence, "Seen through the commitment map, it is one Broadcastnet step or no change, as
 // tabled", for every sound network, every message table and every accepted event, and over lists of events: read
 // specs/Page.antt from top to bottom. The words it uses are in specs/Broadcast.antt (states and steps, each beside its name
-// in 004) and specs/Commit.antt (the image). specs/laws/Refines.antt proves the page; specs/laws/CommitLaws.antt has the image in
-// observations, specs/laws/ImageNet.antt that the image is written as a sound network. docs/REFINEMENT.md compares with 004.
+// in 004) and specs/Commit.antt (the image). proofs/laws/Refines.antt proves the page; proofs/laws/CommitLaws.antt has the image in
+// observations, proofs/laws/ImageNet.antt that the image is written as a sound network. docs/REFINEMENT.md compares with 004.
 //
 // The code works out the image of a network, as it is written.
 #![tactic(auto)]

@@ -8,11 +8,11 @@ use lib.Dec.{eqb}
 use lib.ListN.{get_or, set}
 use borrow.Author.Tests.{eq-eqb, eqb-true}
 use Rattle.sets.specs.Set.{has, union, meet, minus, only, sift, lowest}
-use Rattle.sets.specs.laws.Bools.{clash, bool_ext, and_no, eqb_same, ne_eqb}
-use Rattle.sets.specs.laws.Members.{membership, has_meet, has_minus, has_none, has_without, has_without_other, ext}
-use Rattle.sets.specs.laws.Bounds.{minus_lt}
-use Rattle.sets.specs.laws.Build.{sift_lt, has_sifted, has_puts}
-use Rattle.sets.specs.laws.Lowest.{lowest_has, lowest_lt}
+use Rattle.sets.proofs.laws.Bools.{clash, bool_ext, and_no, eqb_same, ne_eqb}
+use Rattle.sets.proofs.laws.Members.{membership, has_meet, has_minus, has_none, has_without, has_without_other, ext}
+use Rattle.sets.proofs.laws.Bounds.{minus_lt}
+use Rattle.sets.proofs.laws.Build.{sift_lt, has_sifted, has_puts}
+use Rattle.sets.proofs.laws.Lowest.{lowest_has, lowest_lt}
 use Rattle.lists.specs.Edit.{edit}
 use Rattle.lists.specs.laws.Edit.{edit_none, edit_then}
 use Rattle.drain.specs.AtOnce.{gives, OwnTopics, AllFiled, reach, spread, AtOnce}

@@ -13,16 +13,16 @@ use lib.ListN.{length, get_or, set, take, length-set}
 use lib.Seq.{get_or-set_same, get_or-set_other, set_out, set-set, set-get_or, ext_get_or, take_all}
 use Rattle.sets.specs.Set.{has, union, minus, only, with_if, set_of, count, when, puts}
 use Rattle.sets.specs.Rising.{rising}
-use Rattle.sets.specs.laws.Bools.{bool2, eqb_same, ne_eqb}
-use Rattle.sets.specs.laws.Members.{membership, has_minus, has_only, has_with, has_with_other, ext}
-use Rattle.sets.specs.laws.Bounds.{union_lt, only_lt}
-use Rattle.sets.specs.laws.Algebra.{union_empty, union_assoc}
-use Rattle.sets.specs.laws.Build.{has_with_if, set_of_lt, has_set_of_out, set_of_has}
-use Rattle.sets.specs.laws.Rising.{length_rising}
+use Rattle.sets.proofs.laws.Bools.{bool2, eqb_same, ne_eqb}
+use Rattle.sets.proofs.laws.Members.{membership, has_minus, has_only, has_with, has_with_other, ext}
+use Rattle.sets.proofs.laws.Bounds.{union_lt, only_lt}
+use Rattle.sets.proofs.laws.Algebra.{union_empty, union_assoc}
+use Rattle.sets.proofs.laws.Build.{has_with_if, set_of_lt, has_set_of_out, set_of_has}
+use Rattle.sets.proofs.laws.Rising.{length_rising}
 use Rattle.lists.specs.Edit.{edit}
 use Rattle.lists.specs.laws.Edit.{length_edit}
 use Rattle.flooding.specs.Machine.{Pair, pair, run}
-use Rattle.flooding.specs.laws.Loop.{run_snoc}
+use Rattle.flooding.proofs.laws.Loop.{run_snoc}
 use Rattle.network.specs.declared.Network.{Network}
 use Rattle.network.specs.Network.{peer, message, table}
 use Rattle.floodnet.specs.Forward.{moved, receivers, given, forwarded}

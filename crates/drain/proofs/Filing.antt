@@ -14,13 +14,13 @@ use lib.Seq.{get_or-set_same, get_or-set_other}
 use borrow.Author.Tests.{eq-eqb, eqb-true}
 use Rattle.sets.specs.Any.{any}
 use Rattle.sets.specs.Set.{has, union, minus, only, set_of, Subset, lowest}
-use Rattle.sets.specs.laws.Any.{any_yes, any_why, any_none}
-use Rattle.sets.specs.laws.Bools.{bool_ext, and_both, and_yes, or_left, or_right, or_yes, eqb_same, ne_eqb, below_suc}
-use Rattle.sets.specs.laws.Members.{has_union, has_none, has_only, has_with}
-use Rattle.sets.specs.laws.Bounds.{has_in, union_lt, minus_lt, only_lt}
-use Rattle.sets.specs.laws.Build.{has_set_of, is_set_of, set_of_lt, has_sifted}
-use Rattle.sets.specs.laws.Lowest.{lowest_has, lowest_lt}
-use Rattle.sets.specs.laws.Visits.{minus_self, minus_none, subset_self, subset_step, visit_step, set_of_none, Visit, visit_none, visit_yes, visit_no, visit_done}
+use Rattle.sets.proofs.laws.Any.{any_yes, any_why, any_none}
+use Rattle.sets.proofs.laws.Bools.{bool_ext, and_both, and_yes, or_left, or_right, or_yes, eqb_same, ne_eqb, below_suc}
+use Rattle.sets.proofs.laws.Members.{has_union, has_none, has_only, has_with}
+use Rattle.sets.proofs.laws.Bounds.{has_in, union_lt, minus_lt, only_lt}
+use Rattle.sets.proofs.laws.Build.{has_set_of, is_set_of, set_of_lt, has_sifted}
+use Rattle.sets.proofs.laws.Lowest.{lowest_has, lowest_lt}
+use Rattle.sets.proofs.laws.Visits.{minus_self, minus_none, subset_self, subset_step, visit_step, set_of_none, Visit, visit_none, visit_yes, visit_no, visit_done}
 use Rattle.drain.specs.AtOnce.{anywhere_of, topics_of, ByTopic, OwnTopics, EachFiled}
 
 -- ---- `anywhere`

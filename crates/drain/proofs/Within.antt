@@ -11,8 +11,8 @@ use lib.ListN.{length, get_or, set, take, length-set}
 use borrow.Author.Tests.{eqb-true}
 use Rattle.sets.specs.Set.{has, minus, only, with_if}
 use Rattle.sets.specs.Rising.{rising}
-use Rattle.sets.specs.laws.Bools.{clash, and_yes, or_yes}
-use Rattle.sets.specs.laws.Build.{has_with_if}
+use Rattle.sets.proofs.laws.Bools.{clash, and_yes, or_yes}
+use Rattle.sets.proofs.laws.Build.{has_with_if}
 use Rattle.lists.specs.Edit.{edit}
 use Rattle.lists.specs.laws.Edit.{length_edit}
 use Rattle.flooding.specs.Machine.{Pair, pair, run}

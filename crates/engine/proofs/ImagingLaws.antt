@@ -3,7 +3,7 @@ use mathlib.Core.Path.{◌≡◌}
 use mathlib.Core.List.{List}
 use Prim.Native.Nat.{ℕ}
 use lib.ListN.{length}
-use Rattle.sets.specs.laws.Bools.{ne_eqb}
+use Rattle.sets.proofs.laws.Bools.{ne_eqb}
 use Rattle.network.specs.declared.Network.{Network}
 use Rattle.network.specs.declared.Opened.{Opened}
 use Rattle.network.specs.Rules.{checked}

@@ -2,4 +2,3 @@ pub mod Network
 pub mod Counts
 pub mod Machine
 pub mod Page
-pub mod laws

@@ -1,7 +1,7 @@
 -- THE THEORY'S PAGE: demand 3 of the minutes, sentence by sentence, and what document 01 says of the counts and of the drain, of any type S of
 -- states that shows a network of N peers and M messages. The client's page, over the engine's own networks, is specs/Reach.antt of the crate drain.
--- A desk is a peer; s is the start, a sound state. specs/laws/Floods.antt, specs/laws/Drain.antt and specs/laws/Within.antt prove the whole page of every sound
--- state of every Machine; specs/laws/Settled.antt, that Drains leaves one answer. Assumes nothing.
+-- A desk is a peer; s is the start, a sound state. proofs/laws/Floods.antt, proofs/laws/Drain.antt and proofs/laws/Within.antt prove the whole page of every sound
+-- state of every Machine; proofs/laws/Settled.antt, that Drains leaves one answer. Assumes nothing.
 --   How to read it: `x ≡ true` says that x holds, and `x ≡ false` that it does not; `A → B`, if A then B; `(x : A) → B`, B for every x of A;
 --   `A × B`, A and B; `(x : A) × B`, there is an x of A with B; `A ⊎ B`, A or B; `A ↔ B`, A exactly if B; `A → ⊥`, A never.
 use Rattle.std.specs.Prelude.{◌≡◌, ◌⊎◌, ◌↔◌, true, false, List, ℕ, suc, ◌+◌, ◌*◌, ◌≤◌, ◌<◌, length, take}

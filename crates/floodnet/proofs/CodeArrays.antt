@@ -9,11 +9,11 @@ use lib.Dec.{eqb}
 use lib.ListN.{get_or, set}
 use borrow.Author.Tests.{eqb-true}
 use Rattle.sets.specs.Set.{has, union, minus, only, puts, strikes, with_if, sift, lowest}
-use Rattle.sets.specs.laws.Bools.{bool2, eqb_same}
-use Rattle.sets.specs.laws.Members.{has_union, has_minus, has_none, has_only, has_with, has_with_other, ext}
-use Rattle.sets.specs.laws.Build.{has_sifted}
-use Rattle.sets.specs.laws.Lowest.{least_narrow, rest_narrow}
-use Rattle.sets.specs.laws.Visits.{Visit, visit_put, visit_done}
+use Rattle.sets.proofs.laws.Bools.{bool2, eqb_same}
+use Rattle.sets.proofs.laws.Members.{has_union, has_minus, has_none, has_only, has_with, has_with_other, ext}
+use Rattle.sets.proofs.laws.Build.{has_sifted}
+use Rattle.sets.proofs.laws.Lowest.{least_narrow, rest_narrow}
+use Rattle.sets.proofs.laws.Visits.{Visit, visit_put, visit_done}
 use Rattle.lists.specs.Edit.{edit}
 use Rattle.network.specs.declared.Peer.{Peer}
 use Rattle.floodnet.specs.Topics.{noted, struck}

@@ -6,10 +6,10 @@ use mathlib.Core.List.{List}
 use Prim.Native.Nat.{ℕ, ◌^◌, ◌<◌}
 use lib.ListN.{get_or, set}
 use Rattle.sets.specs.Set.{has, union, minus, only, when, puts, strikes, lowest}
-use Rattle.sets.specs.laws.Bools.{bool2}
-use Rattle.sets.specs.laws.Members.{membership, ext}
-use Rattle.sets.specs.laws.Lowest.{lowest_has, lowest_lt}
-use Rattle.sets.specs.laws.Visits.{visit_new}
+use Rattle.sets.proofs.laws.Bools.{bool2}
+use Rattle.sets.proofs.laws.Members.{membership, ext}
+use Rattle.sets.proofs.laws.Lowest.{lowest_has, lowest_lt}
+use Rattle.sets.proofs.laws.Visits.{visit_new}
 use Rattle.lists.specs.Edit.{edit}
 use Rattle.lists.specs.laws.Edit.{edit_store, edit_then, edit_alike}
 use Rattle.floodnet.proofs.CodeVisit.{Along, along_none, along_more}

@@ -7,7 +7,7 @@ use Prim.Native.Nat.{ℕ, ◌/◌, ◌%◌}
 use lib.Dec.{eqb}
 use lib.ListN.{get_or, set}
 use Rattle.sets.specs.Set.{has, union, minus, only, when, puts, strikes, with_if}
-use Rattle.sets.specs.laws.Bools.{eqb_same, ne_eqb}
+use Rattle.sets.proofs.laws.Bools.{eqb_same, ne_eqb}
 use Rattle.lists.specs.Edit.{edit}
 use Rattle.lists.specs.laws.Edit.{edit_edit, set_is_edit}
 use Rattle.network.specs.declared.Peer.{Peer}

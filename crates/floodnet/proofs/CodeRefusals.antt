@@ -6,12 +6,12 @@ use native.Mathlib.Omega.{arith}
 use lib.Dec.{eqb}
 use borrow.Author.Tests.{not-true, not-false, eq-eqb, ne_eqb}
 use Rattle.sets.specs.Set.{has, minus, sift, size, Subset}
-use Rattle.sets.specs.laws.Bools.{and_yes}
-use Rattle.sets.specs.laws.Build.{has_sifted}
-use Rattle.sets.specs.laws.Counts.{size_empty}
-use Rattle.sets.specs.laws.Sizes.{size_minus_meet}
-use Rattle.sets.specs.laws.Subsets.{meet_of_subset}
-use Rattle.sets.specs.laws.Visits.{minus_none}
+use Rattle.sets.proofs.laws.Bools.{and_yes}
+use Rattle.sets.proofs.laws.Build.{has_sifted}
+use Rattle.sets.proofs.laws.Counts.{size_empty}
+use Rattle.sets.proofs.laws.Sizes.{size_minus_meet}
+use Rattle.sets.proofs.laws.Subsets.{meet_of_subset}
+use Rattle.sets.proofs.laws.Visits.{minus_none}
 use Rattle.network.specs.declared.Topic.{Topic}
 use Rattle.network.specs.declared.Message.{Message}
 use Rattle.network.specs.declared.Network.{Network}

@@ -8,7 +8,7 @@ use lib.Dec.{eqb, ltb}
 use lib.ListN.{get_or, set}
 use borrow.Author.Tests.{eqb-true, lt-ltb, le-ltb, ltb-true}
 use Rattle.sets.specs.Set.{when}
-use Rattle.sets.specs.laws.Bools.{bool2, eqb_same, bool_ext}
+use Rattle.sets.proofs.laws.Bools.{bool2, eqb_same, bool_ext}
 use Rattle.lists.specs.Edit.{edit}
 use Rattle.lists.specs.laws.Edit.{edit_none}
 use Rattle.floodnet.proofs.CodeChoices.{picks, picks_none, picks_same, picks_store, Next}

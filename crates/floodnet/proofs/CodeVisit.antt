@@ -6,9 +6,9 @@ use mathlib.Core.List.{List}
 use Prim.Native.Nat.{ℕ, ◌^◌, ◌<◌}
 use lib.ListN.{get_or}
 use Rattle.sets.specs.Set.{has, union, minus, only, Subset, lowest}
-use Rattle.sets.specs.laws.Bounds.{minus_lt}
-use Rattle.sets.specs.laws.Lowest.{lowest_has}
-use Rattle.sets.specs.laws.Visits.{minus_self, minus_none, subset_self, subset_step, visit_step}
+use Rattle.sets.proofs.laws.Bounds.{minus_lt}
+use Rattle.sets.proofs.laws.Lowest.{lowest_has}
+use Rattle.sets.proofs.laws.Visits.{minus_self, minus_none, subset_self, subset_step, visit_step}
 use Rattle.lists.specs.Edit.{edit}
 use Rattle.lists.specs.laws.Edit.{edit_none}
 

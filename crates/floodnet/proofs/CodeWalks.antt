@@ -6,11 +6,11 @@ use Prim.Native.Nat.{ℕ, ◌/◌, ◌%◌, ◌<◌}
 use lib.Dec.{eqb}
 use lib.ListN.{get_or}
 use Rattle.sets.specs.Set.{has, union, minus, only, when, puts, strikes, with_if, sift, lowest}
-use Rattle.sets.specs.laws.Bools.{bool2}
-use Rattle.sets.specs.laws.Members.{membership, has_union, has_none, has_only, ext}
-use Rattle.sets.specs.laws.Build.{has_with_if}
-use Rattle.sets.specs.laws.Lowest.{lowest_has, lowest_lt}
-use Rattle.sets.specs.laws.Visits.{set_of_none, visit_step, sift_step}
+use Rattle.sets.proofs.laws.Bools.{bool2}
+use Rattle.sets.proofs.laws.Members.{membership, has_union, has_none, has_only, ext}
+use Rattle.sets.proofs.laws.Build.{has_with_if}
+use Rattle.sets.proofs.laws.Lowest.{lowest_has, lowest_lt}
+use Rattle.sets.proofs.laws.Visits.{set_of_none, visit_step, sift_step}
 use Rattle.lists.specs.Edit.{edit}
 use Rattle.lists.specs.laws.Edit.{edit_then}
 use Rattle.network.specs.declared.Peer.{Peer}

@@ -1,5 +1,5 @@
 // Loops over a lent array of 32 words, one for each peer: the members of a set are visited, the least first, and nobody else. The
-// loops' turns are laws of the crates below: `Visit` (sets, specs/laws/Visits.antt) for a set that is found, `Visiting` (lists,
+// loops' turns are laws of the crates below: `Visit` (sets, proofs/laws/Visits.antt) for a set that is found, `Visiting` (lists,
 // specs/laws/Visit.antt) for an array that is changed. Each loop's measure is the number of members left, so it has as many turns as members.
 // A forward keeps those left in a word of 64 bits, from which some machines take the least in a step less (docs/BENCH.md).
 ghost use Rattle.std.specs.Prelude.{◌≡◌, ◌<◌};

@@ -8,11 +8,11 @@ use native.Mathlib.Omega.{arith}
 use native.Mathlib.Decide.{dec_lt}
 use lib.ListN.{length, get_or, set, replicate, length-replicate, get_or-replicate, get_or-eq_default}
 use Rattle.sets.specs.Set.{has, union, minus, only, when, puts, with_if, set_of, Subset, lowest}
-use Rattle.sets.specs.laws.Members.{has_minus, has_with, has_with_other}
-use Rattle.sets.specs.laws.Bounds.{minus_lt}
-use Rattle.sets.specs.laws.Lowest.{lowest_has}
-use Rattle.sets.specs.laws.Build.{fill_none, fill_more}
-use Rattle.sets.specs.laws.Visits.{minus_none, subset_self, subset_step, visit_new, visit_step}
+use Rattle.sets.proofs.laws.Members.{has_minus, has_with, has_with_other}
+use Rattle.sets.proofs.laws.Bounds.{minus_lt}
+use Rattle.sets.proofs.laws.Lowest.{lowest_has}
+use Rattle.sets.proofs.laws.Build.{fill_none, fill_more}
+use Rattle.sets.proofs.laws.Visits.{minus_none, subset_self, subset_step, visit_new, visit_step}
 use Rattle.lists.specs.Tab.{tab}
 use Rattle.lists.specs.laws.Tab.{is_tab, length_tab, get_or_tab}
 use Rattle.lists.specs.Edit.{edit}

@@ -5,12 +5,12 @@ use mathlib.Core.List.{List}
 use Prim.Native.Nat.{ℕ, ◌^◌, ◌<◌}
 use lib.ListN.{get_or}
 use Rattle.sets.specs.Set.{has, minus, only, Subset, lowest}
-use Rattle.sets.specs.laws.Bounds.{minus_lt}
-use Rattle.sets.specs.laws.Bools.{and_both, and_no}
-use Rattle.sets.specs.laws.Members.{has_minus}
-use Rattle.sets.specs.laws.Least.{lowest_of_is, lowest_of_none}
-use Rattle.sets.specs.laws.Lowest.{lowest_has, lowest_lt, lowest_least}
-use Rattle.sets.specs.laws.Visits.{subset_self, subset_step, visited_none, visited_more, visited_all}
+use Rattle.sets.proofs.laws.Bounds.{minus_lt}
+use Rattle.sets.proofs.laws.Bools.{and_both, and_no}
+use Rattle.sets.proofs.laws.Members.{has_minus}
+use Rattle.sets.proofs.laws.Least.{lowest_of_is, lowest_of_none}
+use Rattle.sets.proofs.laws.Lowest.{lowest_has, lowest_lt, lowest_least}
+use Rattle.sets.proofs.laws.Visits.{subset_self, subset_step, visited_none, visited_more, visited_all}
 use Rattle.network.specs.declared.Peer.{Peer}
 use Rattle.network.specs.Tests.{list_back}
 

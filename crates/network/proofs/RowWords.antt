@@ -7,8 +7,8 @@ use native.Mathlib.Omega.{arith}
 use lib.Dec.{ltb}
 use lib.ListN.{get_or}
 use borrow.Author.Tests.{lt-ltb, ltb-true}
-use Rattle.sets.specs.laws.Bools.{bool_ext, and_yes, and_both}
-use Rattle.sets.specs.laws.Least.{lowest_of_same}
+use Rattle.sets.proofs.laws.Bools.{bool_ext, and_yes, and_both}
+use Rattle.sets.proofs.laws.Least.{lowest_of_same}
 use Rattle.lists.specs.Tab.{tab}
 use Rattle.lists.specs.laws.Tab.{get_or_tab, tab_same}
 use Rattle.endian.specs.laws.Le.{Bytes, le_4}

@@ -6,15 +6,15 @@ use Prim.Native.Nat.{ℕ, ◌+◌, ◌^◌, ◌≤◌, ◌<◌}
 use lib.Dec.{eqb}
 use lib.ListN.{get_or}
 use borrow.Author.Tests.{eq-eqb, eqb-true}
-use Rattle.sets.specs.laws.Members.{has_meet, has_minus}
-use Rattle.sets.specs.laws.Bounds.{meet_lt, minus_lt}
-use Rattle.sets.specs.laws.Build.{set_of_lt, has_set_of, is_set_of}
+use Rattle.sets.proofs.laws.Members.{has_meet, has_minus}
+use Rattle.sets.proofs.laws.Bounds.{meet_lt, minus_lt}
+use Rattle.sets.proofs.laws.Build.{set_of_lt, has_set_of, is_set_of}
 use Rattle.sets.specs.Set.{has, meet, minus, set_of, lowest}
-use Rattle.sets.specs.laws.Bools.{clash, and_or_not, ne_eqb}
-use Rattle.sets.specs.laws.Least.{lowest_of_le, lowest_of_same, lowest_of_is_all}
-use Rattle.sets.specs.laws.Lowest.{lowest_lowest_of}
+use Rattle.sets.proofs.laws.Bools.{clash, and_or_not, ne_eqb}
+use Rattle.sets.proofs.laws.Least.{lowest_of_le, lowest_of_same, lowest_of_is_all}
+use Rattle.sets.proofs.laws.Lowest.{lowest_lowest_of}
 use Rattle.sets.specs.Any.{all}
-use Rattle.sets.specs.laws.Any.{all_yes, all_why, all_more, all_same}
+use Rattle.sets.proofs.laws.Any.{all_yes, all_why, all_more, all_same}
 use Rattle.lists.specs.laws.Tab.{get_or_tab}
 use Rattle.network.specs.declared.Peer.{Peer}
 use Rattle.network.specs.declared.Topic.{Topic}

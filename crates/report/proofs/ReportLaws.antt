@@ -8,9 +8,9 @@ use lib.ListN.{length, drop, length-append}
 use borrow.Author.Tests.{lt-ltb, le-ltb}
 use Rattle.sets.specs.Set.{has, minus, only, size, lowest}
 use Rattle.sets.specs.Rising.{rising}
-use Rattle.sets.specs.laws.Bounds.{minus_lt}
-use Rattle.sets.specs.laws.Rising.{rising_empty, rising_lowest}
-use Rattle.sets.specs.laws.Sizes.{size_le, size_rest}
+use Rattle.sets.proofs.laws.Bounds.{minus_lt}
+use Rattle.sets.proofs.laws.Rising.{rising_empty, rising_lowest}
+use Rattle.sets.proofs.laws.Sizes.{size_le, size_rest}
 use Rattle.network.specs.declared.Peer.{Peer}
 use Rattle.network.specs.declared.Network.{Network}
 use Rattle.network.specs.Network.{peer, subs_of, pending_of, seen_of, Shaped}

@@ -3,4 +3,3 @@ pub mod Sums
 pub mod Any
 pub mod Least
 pub mod Rising
-pub mod laws

@@ -7,7 +7,7 @@ use lib.ListN.{get_or, length-replicate}
 use Rattle.sets.specs.Set.{minus}
 use Rattle.lists.specs.Tab.{Filled}
 use Rattle.lists.specs.laws.Tab.{filled_none, filled_more}
-use Rattle.broadcastnet.specs.laws.CommitLaws.{without_filled}
+use Rattle.broadcastnet.proofs.laws.CommitLaws.{without_filled}
 use Rattle.broadcastnet.proofs.settled.Given as goal
 
 abbrev pub invariant-loop-q : goal.invariant-loop-q

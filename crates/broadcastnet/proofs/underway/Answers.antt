@@ -4,7 +4,7 @@ use mathlib.Core.Path.{◌≡◌, refl}
 use Prim.Native.Nat.{◌-◌, ◌≤◌}
 use native.Mathlib.Omega.{arith}
 use Rattle.broadcastnet.specs.Commit.{together}
-use Rattle.broadcastnet.specs.laws.CommitLaws.{together_more}
+use Rattle.broadcastnet.proofs.laws.CommitLaws.{together_more}
 use Rattle.broadcastnet.proofs.underway.Goals as goal
 
 pub loop-p-init : goal.loop-p-init

@@ -1,7 +1,7 @@
 -- Laws of specs/Worked.antt. Assumes nothing.
 use Rattle.std.specs.Prelude.{◌≡◌, refl, Bool, true, false, List, [], ◌∷◌, ◌++◌, ℕ, zero, suc, ◌%◌, eqb, ltb, length}
 use Rattle.std.proofs.Common.{sym, ap, ◌∙◌, arith, eqb-true, ltb-true}
-use Rattle.sets.specs.laws.Bools.{and_yes, clash}
+use Rattle.sets.proofs.laws.Bools.{and_yes, clash}
 use Rattle.endian.specs.laws.Le.{Bytes}
 use Rattle.flooding.specs.Machine.{Drained}
 use Rattle.network.specs.declared.Network.{Network}

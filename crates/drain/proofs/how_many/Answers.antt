@@ -2,8 +2,8 @@
 use mathlib.Core.Path.{sym, ◌∙◌}
 use native.Mathlib.Omega.{arith}
 use borrow.Author.Rules.{rules}
-use Rattle.sets.specs.laws.Sizes.{size_none}
-use Rattle.sets.specs.laws.Counts.{size_count}
+use Rattle.sets.proofs.laws.Sizes.{size_none}
+use Rattle.sets.proofs.laws.Counts.{size_count}
 use Rattle.drain.proofs.how_many.Goals as goal
 
 pub returns-then-w-eq0 : goal.returns-then-w-eq0

@@ -6,10 +6,10 @@ use borrow.Author.Rules.{rules}
 use lib.Dec.{eqb}
 use lib.ListN.{get_or}
 use Rattle.sets.specs.Any.{all}
-use Rattle.sets.specs.laws.Any.{all_start, all_more}
+use Rattle.sets.proofs.laws.Any.{all_start, all_more}
 use Rattle.sets.specs.Set.{has, count}
 use Rattle.sets.specs.Sums.{sum}
-use Rattle.sets.specs.laws.Sums.{sum_start, sum_more}
+use Rattle.sets.proofs.laws.Sums.{sum_start, sum_more}
 use Rattle.drain.specs.Pairs.{waiting_of}
 use Rattle.drain.specs.laws.Pairs.{empty_more}
 use Rattle.drain.proofs.waiting.Given as goal

@@ -2,14 +2,14 @@
 use Rattle.std.specs.Prelude.{◌≡◌, refl, ℕ, ◌+◌, ◌≤◌, length}
 use Rattle.std.proofs.Common.{sym, ◌∙◌, arith}
 use Rattle.sets.specs.Set.{count}
-use Rattle.sets.specs.laws.Bools.{not_false}
+use Rattle.sets.proofs.laws.Bools.{not_false}
 use Rattle.flooding.specs.Network as flooding
 use Rattle.flooding.specs.Counts.{pending_pairs}
 use Rattle.flooding.specs.Machine.{due, drain, rounds}
 use Rattle.flooding.specs.Page.{Floods}
-use Rattle.flooding.specs.laws.Loop.{due_length, drain_budget}
-use Rattle.flooding.specs.laws.Floods.{floods}
-use Rattle.flooding.specs.laws.Drain.{drain_fuel}
+use Rattle.flooding.proofs.laws.Loop.{due_length, drain_budget}
+use Rattle.flooding.proofs.laws.Floods.{floods}
+use Rattle.flooding.proofs.laws.Drain.{drain_fuel}
 use Rattle.network.specs.declared.Network.{Network}
 use Rattle.network.specs.declared.Table.{Table}
 use Rattle.network.specs.Network.{Rows}

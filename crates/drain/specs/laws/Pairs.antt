@@ -10,13 +10,13 @@ use Rattle.std.proofs.Math.ListN.{length, take}
 use Rattle.std.proofs.Math.Seq.{take-nil}
 use Rattle.sets.specs.Set.{has, minus, only, lowest, count, digit}
 use Rattle.sets.specs.Rising.{rising}
-use Rattle.sets.specs.laws.Bools.{bool_ext, and_both, and_yes}
-use Rattle.sets.specs.laws.Members.{has_none}
-use Rattle.sets.specs.laws.Bounds.{minus_lt}
-use Rattle.sets.specs.laws.Rising.{rising_empty, rising_lowest}
+use Rattle.sets.proofs.laws.Bools.{bool_ext, and_both, and_yes}
+use Rattle.sets.proofs.laws.Members.{has_none}
+use Rattle.sets.proofs.laws.Bounds.{minus_lt}
+use Rattle.sets.proofs.laws.Rising.{rising_empty, rising_lowest}
 use Rattle.flooding.specs.Machine.{Pair, pair, run, todo, row}
-use Rattle.sets.specs.laws.Sums.{sum_same, sum_zero}
-use Rattle.sets.specs.laws.Counts.{size_count, size_empty}
+use Rattle.sets.proofs.laws.Sums.{sum_same, sum_zero}
+use Rattle.sets.proofs.laws.Counts.{size_count, size_empty}
 use Rattle.flooding.specs.Network.{Net}
 use Rattle.drain.specs.Pairs.{pairs_of, list_of}
 

@@ -9,9 +9,9 @@ use Rattle.flooding.specs.Network as flooding
 use Rattle.flooding.specs.Network.{holds}
 use Rattle.flooding.specs.Machine.{run, due, round, rounds}
 use Rattle.flooding.specs.Page.{Floods, Drains, Finishes}
-use Rattle.flooding.specs.laws.Floods.{held_or_linked, floods, run_ok}
-use Rattle.flooding.specs.laws.Drain.{drain_law, drain_finishes}
-use Rattle.flooding.specs.laws.Within.{within}
+use Rattle.flooding.proofs.laws.Floods.{held_or_linked, floods, run_ok}
+use Rattle.flooding.proofs.laws.Drain.{drain_law, drain_finishes}
+use Rattle.flooding.proofs.laws.Within.{within}
 use Rattle.network.specs.declared.Peer.{Peer}
 use Rattle.network.specs.declared.Message.{Message}
 use Rattle.network.specs.declared.Network.{Network}

@@ -3,10 +3,10 @@ use Rattle.std.specs.Prelude.{◌≡◌, refl, ◌↔◌, Bool, true, false, con
 use Rattle.std.proofs.Common.{sym, ap, ◌∙◌, arith, eqb-true, eq-eqb}
 use Rattle.std.proofs.Math.Decide.{dec_lt}
 use Rattle.sets.specs.Set.{has}
-use Rattle.sets.specs.laws.Any.{all_yes, all_why}
-use Rattle.sets.specs.laws.Bools.{and_both, and_yes}
-use Rattle.sets.specs.laws.Members.{has_none}
-use Rattle.sets.specs.laws.Lowest.{none_empty}
+use Rattle.sets.proofs.laws.Any.{all_yes, all_why}
+use Rattle.sets.proofs.laws.Bools.{and_both, and_yes}
+use Rattle.sets.proofs.laws.Members.{has_none}
+use Rattle.sets.proofs.laws.Lowest.{none_empty}
 use Rattle.flooding.specs.Network as flooding
 use Rattle.flooding.specs.Network.{Chain, holds, link_to}
 use Rattle.flooding.specs.Counts.{unseen_pairs}

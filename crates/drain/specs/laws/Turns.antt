@@ -10,7 +10,7 @@ use Rattle.std.proofs.Math.ListN.{length, take, length-take}
 use Rattle.std.proofs.Math.Seq.{take-nil}
 use Rattle.flooding.specs.Network.{Net}
 use Rattle.flooding.specs.Machine.{Pair, run, due, round, Drained, stopped, drain}
-use Rattle.flooding.specs.laws.Loop.{run_append, drain_none, drain_stop, drain_round, drain_cut}
+use Rattle.flooding.proofs.laws.Loop.{run_append, drain_none, drain_stop, drain_round, drain_cut}
 use Rattle.drain.specs.Pairs.{pairs_of, list_of}
 
 -- The first n of two lists: as many of the first as there are, and of the second what n leaves.

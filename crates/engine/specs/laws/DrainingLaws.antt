@@ -1,7 +1,7 @@
 -- Laws of the drain as an entry point: what it begins with, and each way that it ends. Assumes nothing.
 use Rattle.std.specs.Prelude.{◌≡◌, List, ℕ, ◌<◌, length, get_or}
 use Rattle.std.proofs.Common.{◌∙◌}
-use Rattle.sets.specs.laws.Bools.{ne_eqb}
+use Rattle.sets.proofs.laws.Bools.{ne_eqb}
 use Rattle.endian.specs.laws.Le.{Bytes}
 use Rattle.network.specs.Network.{Rows}
 use Rattle.network.specs.Sound.{Sound}

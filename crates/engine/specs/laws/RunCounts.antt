@@ -4,7 +4,7 @@ use Rattle.std.proofs.Common.{ap, ◌∙◌, inl, inr}
 use native.Mathlib.Omega.{arith}
 use Rattle.sets.specs.Set.{digit, size, count}
 use Rattle.sets.specs.Sums.{sum}
-use Rattle.sets.specs.laws.Counts.{count_ext, count_first}
+use Rattle.sets.proofs.laws.Counts.{count_ext, count_first}
 use Rattle.network.specs.declared.Network.{Network}
 use Rattle.network.specs.declared.Table.{Table}
 use Rattle.events.specs.declared.Read.{Read}

@@ -5,7 +5,7 @@ use Rattle.std.proofs.Math.Bool.{true, false}
 use Prim.Native.Nat.{ℕ, zero, suc, ◌+◌, ◌-◌}
 use Rattle.std.proofs.Math.Dec.{eqb}
 use Rattle.std.proofs.Common.{eq-eqb, eqb-true}
-use Rattle.sets.specs.laws.Bools.{clash, ne_eqb}
+use Rattle.sets.proofs.laws.Bools.{clash, ne_eqb}
 use Rattle.network.specs.declared.Network.{Network}
 use Rattle.network.specs.declared.Table.{Table}
 use Rattle.engine.specs.declared.Tally.{Tally}

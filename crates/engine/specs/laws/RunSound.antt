@@ -4,7 +4,7 @@
 use Rattle.std.specs.Prelude.{◌≡◌, refl, ◌⊎◌, List, ℕ, zero, suc, ◌+◌, ◌-◌}
 use Rattle.std.proofs.Common.{inl, inr, arith}
 use Rattle.sets.specs.Set.{digit, size}
-use Rattle.sets.specs.laws.Sizes.{size_none}
+use Rattle.sets.proofs.laws.Sizes.{size_none}
 use Rattle.endian.specs.laws.Le.{Bytes}
 use Rattle.network.specs.declared.Network.{Network}
 use Rattle.network.specs.declared.Table.{Table}

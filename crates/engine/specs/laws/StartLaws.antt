@@ -1,6 +1,6 @@
 -- Laws of the start: each refusal where its test fails first, and what is known past them. Assumes nothing.
 use Rattle.std.specs.Prelude.{◌≡◌, List, ℕ, ◌%◌, length}
-use Rattle.sets.specs.laws.Bools.{ne_eqb}
+use Rattle.sets.proofs.laws.Bools.{ne_eqb}
 use Rattle.network.specs.declared.Opened.{Opened}
 use Rattle.network.specs.declared.Listed.{Listed}
 use Rattle.network.specs.State.{open_of}

@@ -1,7 +1,7 @@
 -- Reading fields and laying an event out are inverse to each other. Assumes nothing.
 use Rattle.std.specs.Prelude.{ℕ, ◌<◌, ◌≡◌, refl, Bool, true, false, cond}
 use Rattle.std.proofs.Common.{arith, sym, ap, subst, lt-ltb, ltb-true, eqb-true}
-use Rattle.sets.specs.laws.Bools.{and_yes}
+use Rattle.sets.proofs.laws.Bools.{and_yes}
 use Rattle.events.specs.declared.Fields.{Fields}
 use Rattle.events.specs.declared.Event.{Event}
 use Rattle.events.specs.declared.Event.TheVariants.{Skip, Produce, Forward, Subscribe, Unsubscribe, Leave, Join}

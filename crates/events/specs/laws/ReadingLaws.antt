@@ -2,7 +2,7 @@
 -- a case's. Assumes nothing.
 use Rattle.std.specs.Prelude.{ℕ, ◌*◌, ◌/◌, ◌<◌, ◌≡◌, refl, Bool, true, false, cond, List, ltb, eqb, length}
 use Rattle.std.proofs.Common.{sym, ap, ◌∙◌, lt-ltb, ltb-true}
-use Rattle.sets.specs.laws.Bools.{clash}
+use Rattle.sets.proofs.laws.Bools.{clash}
 use Rattle.events.specs.declared.Fields.{Fields}
 use Rattle.events.specs.declared.Event.{Event}
 use Rattle.events.specs.declared.Read.{Read}

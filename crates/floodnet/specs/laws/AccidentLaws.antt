@@ -5,8 +5,8 @@ use Rattle.std.proofs.Math.Bool.{and-true, and-false, or-false}
 use Rattle.std.proofs.Math.Decide.{dec_lt}
 use Rattle.std.proofs.Math.ListN.{get_or-eq_default}
 use Rattle.sets.specs.Set.{has, minus}
-use Rattle.sets.specs.laws.Bools.{clash, not_false, and_no, eqb_same, ne_eqb, or_right}
-use Rattle.sets.specs.laws.Members.{has_none}
+use Rattle.sets.proofs.laws.Bools.{clash, not_false, and_no, eqb_same, ne_eqb, or_right}
+use Rattle.sets.proofs.laws.Members.{has_none}
 use Rattle.network.specs.declared.Peer.{Peer}
 use Rattle.network.specs.declared.Topic.{Topic}
 use Rattle.network.specs.declared.Network.{Network}

@@ -4,8 +4,8 @@ use Rattle.std.specs.Prelude.{◌≡◌, true, ℕ, ◌^◌, ◌≤◌, ◌<◌}
 use Rattle.std.proofs.Common.{sym, ap}
 use Rattle.sets.specs.Set.{only, puts, size, Subset}
 use Rattle.sets.specs.Rising.{members}
-use Rattle.sets.specs.laws.Bools.{clash, not_false}
-use Rattle.sets.specs.laws.Subsets.{subset_minus, size_part, size_part_lt}
+use Rattle.sets.proofs.laws.Bools.{clash, not_false}
+use Rattle.sets.proofs.laws.Subsets.{subset_minus, size_part, size_part_lt}
 use Rattle.lists.specs.Visit.{visits}
 use Rattle.lists.specs.laws.Visit.{visits_edit}
 use Rattle.network.specs.declared.Peer.{Peer}

@@ -5,12 +5,12 @@ use Rattle.std.proofs.Math.Bool.{and-false}
 use Rattle.std.proofs.Math.Decide.{dec_lt}
 use Rattle.sets.specs.Set.{has, only, digit, size}
 use Rattle.sets.specs.Sums.{sum}
-use Rattle.sets.specs.laws.Sums.{sum_same}
-use Rattle.sets.specs.laws.Bools.{and_yes, or_yes, not_yes, eqb_same}
-use Rattle.sets.specs.laws.Members.{has_minus}
-use Rattle.sets.specs.laws.Bounds.{has_out, union_lt, minus_lt, only_lt}
-use Rattle.sets.specs.laws.Build.{with_if_lt}
-use Rattle.sets.specs.laws.Counts.{size_sum}
+use Rattle.sets.proofs.laws.Sums.{sum_same}
+use Rattle.sets.proofs.laws.Bools.{and_yes, or_yes, not_yes, eqb_same}
+use Rattle.sets.proofs.laws.Members.{has_minus}
+use Rattle.sets.proofs.laws.Bounds.{has_out, union_lt, minus_lt, only_lt}
+use Rattle.sets.proofs.laws.Build.{with_if_lt}
+use Rattle.sets.proofs.laws.Counts.{size_sum}
 use Rattle.network.specs.declared.Peer.{Peer}
 use Rattle.network.specs.declared.Topic.{Topic}
 use Rattle.network.specs.declared.Message.{Message}

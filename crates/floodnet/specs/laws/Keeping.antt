@@ -2,8 +2,8 @@
 -- pending and seen messages are others; and links of a sound network. Assumes nothing.
 use Rattle.std.proofs.Common.{rules, ◌∙◌, arith, length-set}
 use Rattle.std.specs.Prelude.{◌≡◌, true, false, List, ℕ, ◌^◌, ◌<◌, length, get_or, set}
-use Rattle.sets.specs.laws.Bools.{clash, not_false, bool_ext}
-use Rattle.sets.specs.laws.Lowest.{none_empty}
+use Rattle.sets.proofs.laws.Bools.{clash, not_false, bool_ext}
+use Rattle.sets.proofs.laws.Lowest.{none_empty}
 use Rattle.lists.specs.Edit.{edit}
 use Rattle.lists.specs.laws.Edit.{length_edit, edit_below}
 use Rattle.network.specs.declared.Peer.{Peer}

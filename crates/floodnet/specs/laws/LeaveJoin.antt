@@ -3,9 +3,9 @@ use Rattle.std.specs.Prelude.{◌≡◌, refl, Bool, true, false, not, cond, ◌
 use Rattle.std.proofs.Common.{sym, ap, ap₂, ◌∙◌, eqb-true}
 use Rattle.std.proofs.Math.Bool.{and-true, and-false, and-not_self}
 use Rattle.sets.specs.Set.{has, union, minus, only}
-use Rattle.sets.specs.laws.Bools.{and_both, and_no, eqb_same, or_right}
-use Rattle.sets.specs.laws.Members.{has_with}
-use Rattle.sets.specs.laws.Subsets.{subset_of_minus, minus_of_subset, subset_trans, subset_union}
+use Rattle.sets.proofs.laws.Bools.{and_both, and_no, eqb_same, or_right}
+use Rattle.sets.proofs.laws.Members.{has_with}
+use Rattle.sets.proofs.laws.Subsets.{subset_of_minus, minus_of_subset, subset_trans, subset_union}
 use Rattle.network.specs.declared.Peer.{Peer}
 use Rattle.network.specs.declared.Topic.{Topic}
 use Rattle.network.specs.declared.Message.{Message}

@@ -5,12 +5,12 @@ use Rattle.std.proofs.Common.{sym, ap, ap₂, ◌∙◌, inl, inr, ⊎_elim, ari
 use Rattle.std.proofs.Math.Bool.{and-true, and-false, and_comm, or-false, or_comm, or_assoc, or_self, and_assoc, and-or_distrib_right}
 use Rattle.std.proofs.Math.Decide.{dec_lt}
 use Rattle.sets.specs.Set.{has, minus, only, when, puts, strikes, with_if, sift, Subset}
-use Rattle.sets.specs.laws.Bools.{clash, not_false, and_yes, and_no, or_yes, ne_eqb, and_eqb}
-use Rattle.sets.specs.laws.Members.{has_none}
-use Rattle.sets.specs.laws.Bounds.{has_out}
-use Rattle.sets.specs.laws.Build.{has_puts, has_strikes, has_with_if, has_without_if, puts_lt, strikes_lt, with_if_lt, has_sifted, sift_lt}
-use Rattle.sets.specs.laws.Lowest.{none_empty}
-use Rattle.sets.specs.laws.Subsets.{subset_of_minus}
+use Rattle.sets.proofs.laws.Bools.{clash, not_false, and_yes, and_no, or_yes, ne_eqb, and_eqb}
+use Rattle.sets.proofs.laws.Members.{has_none}
+use Rattle.sets.proofs.laws.Bounds.{has_out}
+use Rattle.sets.proofs.laws.Build.{has_puts, has_strikes, has_with_if, has_without_if, puts_lt, strikes_lt, with_if_lt, has_sifted, sift_lt}
+use Rattle.sets.proofs.laws.Lowest.{none_empty}
+use Rattle.sets.proofs.laws.Subsets.{subset_of_minus}
 use Rattle.lists.specs.laws.Edit.{get_or_edit, get_or_edit_out}
 use Rattle.network.specs.declared.Peer.{Peer}
 use Rattle.network.specs.declared.Topic.{Topic}

@@ -9,9 +9,9 @@ use Rattle.std.proofs.Math.ListN.{get_or-eq_default}
 use Rattle.std.proofs.Math.Seq.{set_out}
 use Rattle.std.proofs.lemmas.Bool.{eqb-false}
 use Rattle.sets.specs.Set.{has, union, minus, only, when, empties, with_if}
-use Rattle.sets.specs.laws.Bools.{bool_ext, eqb_same, ne_eqb}
-use Rattle.sets.specs.laws.Members.{has_union, has_minus, has_none, has_only}
-use Rattle.sets.specs.laws.Build.{has_with_if, has_empties}
+use Rattle.sets.proofs.laws.Bools.{bool_ext, eqb_same, ne_eqb}
+use Rattle.sets.proofs.laws.Members.{has_union, has_minus, has_none, has_only}
+use Rattle.sets.proofs.laws.Build.{has_with_if, has_empties}
 use Rattle.lists.specs.Edit.{edit}
 use Rattle.lists.specs.laws.Edit.{get_or_edit, get_or_edit_out}
 use Rattle.network.specs.declared.Peer.{Peer}

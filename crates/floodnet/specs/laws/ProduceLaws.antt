@@ -3,11 +3,11 @@ use Rattle.std.specs.Prelude.{◌≡◌, refl, ◌⊎◌, Bool, true, false, ◌
 use Rattle.std.proofs.Common.{sym, ap, ◌∙◌, inl, inr, arith, eqb-true, eq-eqb}
 use Rattle.std.proofs.Math.Decide.{dec_lt}
 use Rattle.sets.specs.Set.{has, only}
-use Rattle.sets.specs.laws.Bools.{clash, not_false, and_yes, and_no, and_fails, or_yes, or_no}
-use Rattle.sets.specs.laws.Members.{has_none}
-use Rattle.sets.specs.laws.Bounds.{has_out, union_lt, only_lt}
-use Rattle.sets.specs.laws.Build.{has_sift, sift_lt}
-use Rattle.sets.specs.laws.Lowest.{none_empty}
+use Rattle.sets.proofs.laws.Bools.{clash, not_false, and_yes, and_no, and_fails, or_yes, or_no}
+use Rattle.sets.proofs.laws.Members.{has_none}
+use Rattle.sets.proofs.laws.Bounds.{has_out, union_lt, only_lt}
+use Rattle.sets.proofs.laws.Build.{has_sift, sift_lt}
+use Rattle.sets.proofs.laws.Lowest.{none_empty}
 use Rattle.network.specs.declared.Peer.{Peer}
 use Rattle.network.specs.declared.Topic.{Topic}
 use Rattle.network.specs.declared.Message.{Message}

@@ -6,11 +6,11 @@ use Rattle.std.proofs.Math.Bool.{and-true, and-false}
 use Rattle.std.proofs.lemmas.Bool.{eqb-false}
 use Rattle.std.proofs.lemmas.List.{set-get_or}
 use Rattle.sets.specs.Set.{has, only, when, empties}
-use Rattle.sets.specs.laws.Bools.{clash, not_false, and_both, and_yes, and_no, or_left, or_no}
-use Rattle.sets.specs.laws.Members.{has_union, has_minus, has_only}
-use Rattle.sets.specs.laws.Bounds.{union_lt, minus_lt, only_lt}
-use Rattle.sets.specs.laws.Build.{has_empties, empties_lt}
-use Rattle.sets.specs.laws.Sizes.{without_stranger}
+use Rattle.sets.proofs.laws.Bools.{clash, not_false, and_both, and_yes, and_no, or_left, or_no}
+use Rattle.sets.proofs.laws.Members.{has_union, has_minus, has_only}
+use Rattle.sets.proofs.laws.Bounds.{union_lt, minus_lt, only_lt}
+use Rattle.sets.proofs.laws.Build.{has_empties, empties_lt}
+use Rattle.sets.proofs.laws.Sizes.{without_stranger}
 use Rattle.lists.specs.laws.Edit.{length_edit, edit_below, edit_none}
 use Rattle.network.specs.declared.Peer.{Peer}
 use Rattle.network.specs.declared.Topic.{Topic}

@@ -3,9 +3,9 @@
 use Rattle.std.specs.Prelude.{◌≡◌, refl, true, false, not, ℕ, zero, suc, ◌+◌, eqb, set}
 use Rattle.std.proofs.Common.{sym, ap, ◌∙◌, arith, eqb-true}
 use Rattle.std.proofs.lemmas.List.{set-get_or}
-use Rattle.sets.specs.laws.Bools.{not_yes}
+use Rattle.sets.proofs.laws.Bools.{not_yes}
 use Rattle.sets.specs.Set.{has, minus, digit, size}
-use Rattle.sets.specs.laws.Sizes.{size_none}
+use Rattle.sets.proofs.laws.Sizes.{size_none}
 use Rattle.network.specs.declared.Peer.{Peer}
 use Rattle.network.specs.declared.Message.{Message}
 use Rattle.network.specs.declared.Network.{Network}

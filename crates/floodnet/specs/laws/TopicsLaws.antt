@@ -5,12 +5,12 @@ use Rattle.std.proofs.Common.{sym, ap, ap₂, ◌∙◌, inl, inr, arith, eqb-tr
 use Rattle.std.proofs.Math.Bool.{and-true, and-false, or-false}
 use Rattle.std.proofs.lemmas.List.{set-get_or}
 use Rattle.sets.specs.Set.{has, union, minus, only, when, puts, strikes, with_if}
-use Rattle.sets.specs.laws.Bools.{either, clash, and_both, and_yes, or_right, and_eqb}
-use Rattle.sets.specs.laws.Members.{has_union, has_minus, has_none}
-use Rattle.sets.specs.laws.Bounds.{union_lt, minus_lt}
-use Rattle.sets.specs.laws.Build.{has_with_if, has_without_if, with_if_lt, strikes_lt}
-use Rattle.sets.specs.laws.Lowest.{none_empty}
-use Rattle.sets.specs.laws.Sizes.{with_member, without_stranger}
+use Rattle.sets.proofs.laws.Bools.{either, clash, and_both, and_yes, or_right, and_eqb}
+use Rattle.sets.proofs.laws.Members.{has_union, has_minus, has_none}
+use Rattle.sets.proofs.laws.Bounds.{union_lt, minus_lt}
+use Rattle.sets.proofs.laws.Build.{has_with_if, has_without_if, with_if_lt, strikes_lt}
+use Rattle.sets.proofs.laws.Lowest.{none_empty}
+use Rattle.sets.proofs.laws.Sizes.{with_member, without_stranger}
 use Rattle.lists.specs.laws.Edit.{edit_none}
 use Rattle.network.specs.declared.Peer.{Peer}
 use Rattle.network.specs.declared.Topic.{Topic}

@@ -3,11 +3,11 @@
 use Rattle.std.specs.Prelude.{◌≡◌, true, false, suc, ◌+◌, ◌<◌, length}
 use Rattle.std.proofs.Common.{sym, ap, ◌∙◌, arith, get_or-set_same, get_or-set_other}
 use Rattle.sets.specs.Set.{union, only, size}
-use Rattle.sets.specs.laws.Sums.{sum_same, sum_drop}
-use Rattle.sets.specs.laws.Sizes.{size_with}
-use Rattle.sets.specs.laws.Counts.{size_sum}
+use Rattle.sets.proofs.laws.Sums.{sum_same, sum_drop}
+use Rattle.sets.proofs.laws.Sizes.{size_with}
+use Rattle.sets.proofs.laws.Counts.{size_sum}
 use Rattle.flooding.specs.Counts.{pending_pairs, delivers}
-use Rattle.flooding.specs.laws.Tally.{forward_tally}
+use Rattle.flooding.proofs.laws.Tally.{forward_tally}
 use Rattle.network.specs.declared.Peer.{Peer}
 use Rattle.network.specs.declared.Message.{Message}
 use Rattle.network.specs.declared.Network.{Network}

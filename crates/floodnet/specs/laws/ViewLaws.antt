@@ -3,11 +3,11 @@ use Rattle.std.specs.Prelude.{◌≡◌, refl, true, ◌&&◌, ℕ, ◌+◌, ◌
 use Rattle.std.proofs.Common.{sym, ap, ◌∙◌, div-add-mod', arith, ext_get_or}
 use Rattle.std.proofs.Math.Decide.{dec_lt}
 use Rattle.sets.specs.Set.{has}
-use Rattle.sets.specs.laws.Bools.{clash, not_false}
-use Rattle.sets.specs.laws.Members.{ext_below, has_none}
+use Rattle.sets.proofs.laws.Bools.{clash, not_false}
+use Rattle.sets.proofs.laws.Members.{ext_below, has_none}
 use Rattle.flooding.specs.Network as flooding
 use Rattle.flooding.specs.Network.{Net, Quiet, link, forward}
-use Rattle.flooding.specs.laws.Machine.{Machine}
+use Rattle.flooding.proofs.laws.Machine.{Machine}
 use Rattle.network.specs.declared.Peer.{Peer}
 use Rattle.network.specs.declared.Topic.{Topic}
 use Rattle.network.specs.declared.Network.{Network}

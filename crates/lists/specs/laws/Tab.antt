@@ -1,7 +1,7 @@
 -- Laws of specs/Tab.antt. Assumes nothing.
 use Rattle.std.specs.Prelude.{◌≡◌, refl, ◌⊎◌, List, ℕ, zero, suc, ◌+◌, ◌<◌, length, get_or, set}
 use Rattle.std.proofs.Common.{sym, ap, ◌∙◌, inl, inr, arith, add-one, length-set, get_or-set_same, get_or-set_other, ext_get_or}
-use Rattle.sets.specs.laws.Bools.{below_suc}
+use Rattle.sets.proofs.laws.Bools.{below_suc}
 use Rattle.lists.specs.Tab.{tab, Filled}
 
 pub length_tab : (n : ℕ) (f : ℕ → ℕ) → length (tab n f) ≡ n

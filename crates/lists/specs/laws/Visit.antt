@@ -6,10 +6,10 @@ use Rattle.std.proofs.Math.Bool.{and-false}
 use Rattle.std.proofs.Math.Decide.{dec_lt, ℕ_discrete}
 use Rattle.sets.specs.Set.{has, minus, only, when, lowest}
 use Rattle.sets.specs.Rising.{rising, members}
-use Rattle.sets.specs.laws.Bools.{bool_ext}
-use Rattle.sets.specs.laws.Bounds.{has_out, minus_lt}
-use Rattle.sets.specs.laws.Lowest.{least_narrow, rest_narrow}
-use Rattle.sets.specs.laws.Rising.{rising_empty, rising_lowest}
+use Rattle.sets.proofs.laws.Bools.{bool_ext}
+use Rattle.sets.proofs.laws.Bounds.{has_out, minus_lt}
+use Rattle.sets.proofs.laws.Lowest.{least_narrow, rest_narrow}
+use Rattle.sets.proofs.laws.Rising.{rising_empty, rising_lowest}
 use Rattle.lists.specs.Edit.{edit}
 use Rattle.lists.specs.Visit.{visits}
 use Rattle.lists.specs.laws.Edit.{edit_none, edit_alike, edit_store}

@@ -6,10 +6,10 @@ use Rattle.std.proofs.Math.Path.{ap}
 use Rattle.std.proofs.Math.Bool.{not}
 use Rattle.std.proofs.Math.Dec.{eqb}
 use borrow.Author.Tests.{lt-ltb, le-ltb, ltb-true, ltb-false, eq-eqb, eqb-true, eqb-false}
-use Rattle.sets.specs.laws.Bools.{not_false, not_yes, not_no, and_both, and_yes, ne_eqb, below_suc}
-use Rattle.sets.specs.laws.Least.{lowest_of_least, lowest_of_lt_holds, lowest_of_is, lowest_of_none, lowest_of_same}
+use Rattle.sets.proofs.laws.Bools.{not_false, not_yes, not_no, and_both, and_yes, ne_eqb, below_suc}
+use Rattle.sets.proofs.laws.Least.{lowest_of_least, lowest_of_lt_holds, lowest_of_is, lowest_of_none, lowest_of_same}
 use Rattle.sets.specs.Any.{all}
-use Rattle.sets.specs.laws.Any.{all_yes, all_why}
+use Rattle.sets.proofs.laws.Any.{all_yes, all_why}
 use Rattle.lists.specs.Tab.{tab}
 use Rattle.lists.specs.laws.Tab.{get_or_tab}
 use Rattle.network.specs.declared.Peer.{Peer}

@@ -2,8 +2,8 @@
 use Rattle.std.specs.Prelude.{◌≡◌, refl, Bool, true, false, cond, not, ◌&&◌, List, ℕ, ◌*◌, ◌≤◌, ◌<◌, eqb, ltb, length, get_or}
 use Rattle.std.proofs.Common.{sym, ap, add-zero, arith, lt-ltb, le-ltb, eq-eqb, ltb-true, ltb-false, eqb-true}
 use Rattle.std.proofs.lemmas.List.{length-replicate}
-use Rattle.sets.specs.laws.Bools.{ne_eqb, and_yes, and_both, not_no, not_false}
-use Rattle.sets.specs.laws.Least.{lowest_of_least}
+use Rattle.sets.proofs.laws.Bools.{ne_eqb, and_yes, and_both, not_no, not_false}
+use Rattle.sets.proofs.laws.Least.{lowest_of_least}
 use Rattle.lists.specs.laws.Tab.{length_tab, tab_below}
 use Rattle.network.specs.declared.Table.{Table}
 use Rattle.network.specs.Network.{Rows}

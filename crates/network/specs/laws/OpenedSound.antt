@@ -3,9 +3,9 @@ use Rattle.std.specs.Prelude.{◌≡◌, refl, Bool, true, false, cond, ◌&&◌
 use Rattle.std.proofs.Common.{sym, ap, ◌∙◌, arith, ltb-true, eqb-true}
 use Rattle.std.proofs.lemmas.List.{length-replicate}
 use Rattle.sets.specs.Set.{has, digit}
-use Rattle.sets.specs.laws.Bools.{clash}
-use Rattle.sets.specs.laws.Members.{has_none}
-use Rattle.sets.specs.laws.Build.{set_of_lt, has_set_of}
+use Rattle.sets.proofs.laws.Bools.{clash}
+use Rattle.sets.proofs.laws.Members.{has_none}
+use Rattle.sets.proofs.laws.Build.{set_of_lt, has_set_of}
 use Rattle.lists.specs.laws.Tab.{length_tab, tab_below}
 use Rattle.endian.specs.laws.Le.{Bytes, le_lt_4, le_lt_8}
 use Rattle.network.specs.declared.Peer.{Peer}

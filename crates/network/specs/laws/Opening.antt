@@ -2,8 +2,8 @@
 use Rattle.std.specs.Prelude.{◌≡◌, List, ℕ, ◌%◌, eqb, length, get_or}
 use Rattle.std.proofs.Common.{sym, ap, ◌∙◌, eq-eqb}
 use Rattle.sets.specs.Set.{set_of}
-use Rattle.sets.specs.laws.Bools.{ne_eqb}
-use Rattle.sets.specs.laws.Build.{set_of_same}
+use Rattle.sets.proofs.laws.Bools.{ne_eqb}
+use Rattle.sets.proofs.laws.Build.{set_of_same}
 use Rattle.lists.specs.Tab.{tab}
 use Rattle.lists.specs.laws.Tab.{get_or_tab}
 use Rattle.network.specs.declared.Network.{Network}

@@ -6,15 +6,15 @@ use Rattle.std.proofs.Math.Bool.{not}
 use Rattle.std.proofs.Math.Decide.{dec_lt}
 use borrow.Author.Tests.{eq-eqb, eqb-true, eqb-false}
 use Rattle.sets.specs.Set.{has, meet, set_of, lowest}
-use Rattle.sets.specs.laws.Bools.{either, clash, not_false, not_yes, not_no, and_yes, apart, apart_not, apart_same, not_own, implied, implies}
-use Rattle.sets.specs.laws.Members.{has_meet}
-use Rattle.sets.specs.laws.Bounds.{has_out, meet_lt}
-use Rattle.sets.specs.laws.Build.{has_set_of, has_set_of_out, is_set_of}
-use Rattle.sets.specs.laws.Subsets.{disjoint_of_meet, meet_none}
-use Rattle.sets.specs.laws.Lowest.{lowest_has}
+use Rattle.sets.proofs.laws.Bools.{either, clash, not_false, not_yes, not_no, and_yes, apart, apart_not, apart_same, not_own, implied, implies}
+use Rattle.sets.proofs.laws.Members.{has_meet}
+use Rattle.sets.proofs.laws.Bounds.{has_out, meet_lt}
+use Rattle.sets.proofs.laws.Build.{has_set_of, has_set_of_out, is_set_of}
+use Rattle.sets.proofs.laws.Subsets.{disjoint_of_meet, meet_none}
+use Rattle.sets.proofs.laws.Lowest.{lowest_has}
 use Rattle.sets.specs.Any.{all, any}
-use Rattle.sets.specs.laws.Any.{any_why, any_no, all_yes, all_why}
-use Rattle.sets.specs.laws.Least.{lowest_of_lt_holds, lowest_of_least, lowest_of_is, lowest_of_le, lowest_of_is_all}
+use Rattle.sets.proofs.laws.Any.{any_why, any_no, all_yes, all_why}
+use Rattle.sets.proofs.laws.Least.{lowest_of_lt_holds, lowest_of_least, lowest_of_is, lowest_of_le, lowest_of_is_all}
 use Rattle.network.specs.declared.Peer.{Peer}
 use Rattle.network.specs.declared.Topic.{Topic}
 use Rattle.network.specs.declared.Message.{Message}

@@ -3,8 +3,8 @@
 use Rattle.std.specs.Prelude.{◌≡◌, ◌↔◌, Bool, true, false, ◌&&◌, ℕ, ◌<◌}
 use Rattle.std.proofs.Common.{sym, ap, ◌∙◌, ⊎_elim}
 use Rattle.sets.specs.Set.{has, digit}
-use Rattle.sets.specs.laws.Bools.{either, clash, not_false}
-use Rattle.sets.specs.laws.Members.{has_none}
+use Rattle.sets.proofs.laws.Bools.{either, clash, not_false}
+use Rattle.sets.proofs.laws.Members.{has_none}
 use Rattle.network.specs.declared.Peer.{Peer}
 use Rattle.network.specs.declared.Topic.{Topic}
 use Rattle.network.specs.declared.Message.{Message}

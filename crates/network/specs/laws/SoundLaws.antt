@@ -4,9 +4,9 @@ use Rattle.std.specs.Prelude.{◌≡◌, refl, Bool, true, false, List, ℕ, ◌
 use Rattle.std.proofs.Common.{sym, ap, ◌∙◌, lt_of_not-le}
 use Rattle.std.proofs.Math.ListN.{get_or-eq_default}
 use Rattle.sets.specs.Set.{has}
-use Rattle.sets.specs.laws.Bools.{clash, and_yes}
-use Rattle.sets.specs.laws.Members.{has_none}
-use Rattle.sets.specs.laws.Bounds.{has_in}
+use Rattle.sets.proofs.laws.Bools.{clash, and_yes}
+use Rattle.sets.proofs.laws.Members.{has_none}
+use Rattle.sets.proofs.laws.Bounds.{has_in}
 use Rattle.network.specs.declared.Peer.{Peer}
 use Rattle.network.specs.declared.Topic.{Topic}
 use Rattle.network.specs.declared.Message.{Message}

@@ -10,8 +10,8 @@ use Rattle.std.proofs.Math.Dec.{eqb}
 use Rattle.std.proofs.Math.ListN.{get_or}
 use Rattle.std.proofs.lemmas.List.{length-replicate}
 use Rattle.sets.specs.Set.{has, digit}
-use Rattle.sets.specs.laws.Members.{has_none}
-use Rattle.sets.specs.laws.Build.{set_of_same, set_of_has}
+use Rattle.sets.proofs.laws.Members.{has_none}
+use Rattle.sets.proofs.laws.Build.{set_of_same, set_of_has}
 use Rattle.lists.specs.laws.Tab.{length_tab, get_or_tab, is_tab}
 use Rattle.endian.specs.Le.{le}
 use Rattle.endian.specs.laws.Le.{Bytes, le_4, le_8}

@@ -1,7 +1,7 @@
 -- Writing a state: what the code has worked out is what `write_of` and `written_of` say. Assumes nothing.
 use Rattle.std.specs.Prelude.{◌≡◌, refl, List, ℕ, length}
 use Rattle.std.proofs.Common.{eq-eqb}
-use Rattle.sets.specs.laws.Bools.{ne_eqb}
+use Rattle.sets.proofs.laws.Bools.{ne_eqb}
 use Rattle.network.specs.declared.Network.{Network}
 use Rattle.network.specs.declared.Checked.{Checked}
 use Rattle.network.specs.Rules.{checked, verdict_of}

@@ -3,7 +3,7 @@ use Rattle.std.specs.Prelude.{◌≡◌, refl, true, List, ℕ, ◌^◌, ◌<◌
 use Rattle.std.proofs.Common.{sym, ap, ◌∙◌, arith}
 use Rattle.std.proofs.Math.Decide.{ℕ_discrete}
 use Rattle.sets.specs.Set.{size}
-use Rattle.sets.specs.laws.Sizes.{size_none}
+use Rattle.sets.proofs.laws.Sizes.{size_none}
 use Rattle.endian.specs.laws.Le.{Bytes}
 use Rattle.network.specs.declared.Opened.{Opened}
 use Rattle.network.specs.Network.{peer, message, present, pending}

@@ -9,8 +9,8 @@ use native.Mathlib.Omega.{arith}
 use Rattle.std.proofs.Math.Decide.{dec_lt}
 use Rattle.std.proofs.lemmas.Bool.{eqb-false}
 use Rattle.sets.specs.Set.{digit}
-use Rattle.sets.specs.laws.Bools.{either, clash, implied, implies, implied_not, implies_not}
-use Rattle.sets.specs.laws.Any.{all_no}
+use Rattle.sets.proofs.laws.Bools.{either, clash, implied, implies, implied_not, implies_not}
+use Rattle.sets.proofs.laws.Any.{all_no}
 use Rattle.endian.specs.laws.Le.{Bytes, le_4}
 use Rattle.network.specs.declared.Peer.{Peer}
 use Rattle.network.specs.declared.Network.{Network}

@@ -3,7 +3,7 @@
 use Rattle.std.specs.Prelude.{◌≡◌, refl, Bool, true, false, cond, ◌&&◌, List, ℕ, ◌+◌, ◌<◌, eqb, ltb}
 use Rattle.std.proofs.Common.{sym, ap, ◌∙◌, arith, eq-eqb, eqb-true, ltb-true}
 use Rattle.sets.specs.Set.{size}
-use Rattle.sets.specs.laws.Bools.{clash, and_yes}
+use Rattle.sets.proofs.laws.Bools.{clash, and_yes}
 use Rattle.network.specs.declared.Network.{Network}
 use Rattle.network.specs.declared.Table.{Table}
 use Rattle.network.specs.Network.{peer, message}

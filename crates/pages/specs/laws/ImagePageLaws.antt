@@ -20,11 +20,11 @@ use Rattle.events.specs.laws.RoundTrip.{read_fits}
 use Rattle.floodnet.specs.Step.{refusal, effect}
 use Rattle.broadcastnet.specs.Broadcast.{Step}
 use Rattle.broadcastnet.specs.Commit.{image, image_net}
-use Rattle.broadcastnet.specs.laws.ImageNet.{image_written, image_net_sound}
+use Rattle.broadcastnet.proofs.laws.ImageNet.{image_written, image_net_sound}
 use Rattle.broadcastnet.specs.Page.{Row}
 use Rattle.broadcastnet.specs.Unchanged.{Unchanged}
-use Rattle.broadcastnet.specs.laws.Unchanged.{unchanged}
-use Rattle.broadcastnet.specs.laws.Refines.{image_step, one_step}
+use Rattle.broadcastnet.proofs.laws.Unchanged.{unchanged}
+use Rattle.broadcastnet.proofs.laws.Refines.{image_step, one_step}
 use Rattle.engine.specs.declared.Tally.{Tally}
 use Rattle.engine.specs.declared.Answer.{Answer}
 use Rattle.engine.specs.Start.{begin_of}

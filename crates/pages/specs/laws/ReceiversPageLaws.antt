@@ -1,7 +1,7 @@
 -- The client's page of the receivers (specs/ReceiversPage.antt) holds. Assumes nothing.
 use Rattle.std.proofs.Common.{◌∙◌}
 use Rattle.std.specs.Prelude.{List, ℕ}
-use Rattle.sets.specs.laws.Counts.{size_count}
+use Rattle.sets.proofs.laws.Counts.{size_count}
 use Rattle.endian.specs.laws.Le.{Bytes}
 use Rattle.network.specs.Network.{peer, message}
 use Rattle.network.specs.laws.Listing.{listed_rows}

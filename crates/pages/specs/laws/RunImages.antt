@@ -19,7 +19,7 @@ use Rattle.events.specs.Kind.{kind_of}
 use Rattle.floodnet.specs.Step.{refusal, effect, if_accepted, after, receivers_of, turned, turned_of}
 use Rattle.broadcastnet.specs.Commit.{image}
 use Rattle.broadcastnet.specs.Page.{Accepted, effects, images, Path}
-use Rattle.broadcastnet.specs.laws.Refines.{images_follow}
+use Rattle.broadcastnet.proofs.laws.Refines.{images_follow}
 use Rattle.engine.specs.declared.Tally.{Tally}
 use Rattle.engine.specs.Run.{zero_tally, turn_of, Final, stops_at, run_from, run_all, ReadFits}
 use Rattle.engine.specs.RunLaws.{outcome_at, tally_after}

@@ -6,9 +6,9 @@ use Rattle.std.proofs.Math.Logic.{⊎_elim}
 use Rattle.std.proofs.Math.ListN.{length}
 use Rattle.std.proofs.Math.Seq.{length-take-le}
 use Rattle.std.proofs.lemmas.Bool.{eqb-false}
-use Rattle.sets.specs.laws.Bools.{either, ne_eqb}
+use Rattle.sets.proofs.laws.Bools.{either, ne_eqb}
 use Rattle.sets.specs.Set.{count}
-use Rattle.sets.specs.laws.Counts.{count_ext}
+use Rattle.sets.proofs.laws.Counts.{count_ext}
 use Rattle.endian.specs.laws.Le.{Bytes}
 use Rattle.network.specs.declared.Network.{Network}
 use Rattle.network.specs.declared.Table.{Table}

@@ -1,10 +1,10 @@
 -- Laws of specs/RunReached.antt. Assumes nothing.
 use Rattle.std.specs.Prelude.{◌≡◌, refl, List, ℕ, zero, suc, ◌+◌, ◌/◌, ◌<◌, length}
 use Rattle.std.proofs.Common.{sym, ap, ◌∙◌, ⊎_elim, arith, add-one}
-use Rattle.sets.specs.laws.Bools.{below_suc}
+use Rattle.sets.proofs.laws.Bools.{below_suc}
 use Rattle.sets.specs.Set.{size}
 use Rattle.sets.specs.Sums.{sum}
-use Rattle.sets.specs.laws.Sums.{sum_start, sum_more}
+use Rattle.sets.proofs.laws.Sums.{sum_start, sum_more}
 use Rattle.network.specs.declared.Network.{Network}
 use Rattle.network.specs.declared.Table.{Table}
 use Rattle.events.specs.Event.{read_at}

@@ -1,8 +1,8 @@
 -- Laws of specs/UntouchedPage.antt. Assumes nothing.
 use Rattle.std.specs.Prelude.{◌≡◌, refl, Bool, true, false, cond, ◌&&◌, ◌⊎◌, List, ℕ, eqb, ltb, length}
 use Rattle.std.proofs.Common.{inl, inr}
-use Rattle.sets.specs.laws.Bools.{ne_eqb}
-use Rattle.sets.specs.laws.Sizes.{size_none}
+use Rattle.sets.proofs.laws.Bools.{ne_eqb}
+use Rattle.sets.proofs.laws.Sizes.{size_none}
 use Rattle.network.specs.Network.{peer, message}
 use Rattle.network.specs.declared.Checked.{Checked}
 use Rattle.network.specs.Rules.{checked}

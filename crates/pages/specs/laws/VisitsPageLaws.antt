@@ -3,7 +3,7 @@ use Rattle.std.specs.Prelude.{◌≡◌, List, ℕ, ◌≤◌, ◌<◌}
 use Rattle.std.proofs.Common.{sym, ap, ◌∙◌}
 use Rattle.sets.specs.Set.{only, puts, size}
 use Rattle.sets.specs.Rising.{members}
-use Rattle.sets.specs.laws.Rising.{in_members, members_rise, length_members}
+use Rattle.sets.proofs.laws.Rising.{in_members, members_rise, length_members}
 use Rattle.lists.specs.Visit.{visits}
 use Rattle.endian.specs.laws.Le.{Bytes}
 use Rattle.network.specs.declared.Network.{Network}

@@ -1,7 +1,7 @@
 -- `sets::lowest32` meets its contract. Assumes nothing.
 use borrow.Author.Rules.{rules}
 use Rattle.sets.specs.Set.{lowest}
-use Rattle.sets.specs.laws.Lowest.{lowest_lt}
+use Rattle.sets.proofs.laws.Lowest.{lowest_lt}
 use Rattle.sets.proofs.lowest32.Goals as goal
 
 pub returns : goal.returns

@@ -1,7 +1,7 @@
 -- `sets::size32` meets its contract. Assumes nothing.
 use borrow.Author.Rules.{rules}
 use Rattle.sets.specs.Set.{size}
-use Rattle.sets.specs.laws.Sizes.{size_le}
+use Rattle.sets.proofs.laws.Sizes.{size_le}
 use Rattle.sets.proofs.size32.Goals as goal
 
 pub returns : goal.returns

@@ -1,7 +1,7 @@
 -- `sets::with_least64` meets its contract. Assumes nothing.
 use borrow.Author.Rules.{rules}
 use Rattle.sets.specs.Set.{meet}
-use Rattle.sets.specs.laws.Bounds.{meet_lt}
+use Rattle.sets.proofs.laws.Bounds.{meet_lt}
 use Rattle.sets.proofs.Words.{and_not_pred, times_lt, or_times}
 use Rattle.sets.proofs.with_least64.Goals as goal
 

@@ -2,10 +2,10 @@
 use Rattle.std.specs.Prelude.{◌≡◌, refl, ◌⊎◌, ◌↔◌, Bool, true, false, ◌&&◌, ◌||◌, not, cond, ℕ, ◌<◌, eqb}
 use Rattle.std.proofs.Common.{sym, ◌∙◌, inl, inr, ⊎_elim, arith, eqb-true, eq-eqb}
 use Rattle.std.proofs.lemmas.Bool.{eqb-false}
-use Rattle.sets.specs.laws.Bools.{clash, and_both, and_yes, or_left, or_right, or_yes, ne_eqb}
+use Rattle.sets.proofs.laws.Bools.{clash, and_both, and_yes, or_left, or_right, or_yes, ne_eqb}
 use Rattle.sets.specs.Set.{has, lowest}
-use Rattle.sets.specs.laws.Members.{has_none, below_pow}
-use Rattle.sets.specs.laws.Lowest.{lowest_has, none_empty}
+use Rattle.sets.proofs.laws.Members.{has_none, below_pow}
+use Rattle.sets.proofs.laws.Lowest.{lowest_has, none_empty}
 use Rattle.network.specs.Rules.{need}
 
 -- ---- several at once

@@ -5,11 +5,11 @@ use Rattle.std.proofs.Common.{sym, ap, ◌∙◌, inl, inr, arith}
 use Rattle.std.proofs.Math.Logic as logic
 use Rattle.std.proofs.Math.Bool.{Bool}
 use Rattle.std.proofs.Math.Dec.{eqb}
-use Rattle.sets.specs.laws.Bools.{clash, not_false, and_yes, or_yes}
+use Rattle.sets.proofs.laws.Bools.{clash, not_false, and_yes, or_yes}
 use Rattle.sets.specs.Set.{has, minus, Subset}
-use Rattle.sets.specs.laws.Members.{has_none, has_minus}
-use Rattle.sets.specs.laws.Bounds.{has_in}
-use Rattle.sets.specs.laws.Subsets.{subset_of_minus, minus_of_subset}
+use Rattle.sets.proofs.laws.Members.{has_none, has_minus}
+use Rattle.sets.proofs.laws.Bounds.{has_in}
+use Rattle.sets.proofs.laws.Subsets.{subset_of_minus, minus_of_subset}
 use Rattle.network.specs.declared.Peer.{Peer}
 use Rattle.network.specs.declared.Message.{Message}
 use Rattle.network.specs.declared.Network.{Network}

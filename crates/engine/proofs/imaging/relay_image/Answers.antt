@@ -1,6 +1,6 @@
 -- `engine::imaging::relay_image` meets its contract. Assumes nothing.
 use borrow.Author.Rules.{rules}
-use Rattle.broadcastnet.specs.laws.CommitLaws.{image_net_made}
+use Rattle.broadcastnet.proofs.laws.CommitLaws.{image_net_made}
 use Rattle.engine.proofs.AloneLaws.{answered_as}
 use Rattle.engine.proofs.ImagingLaws.{image_refused, image_short, image_done}
 use Rattle.engine.proofs.Lent.{looked_is, looked_net}

@@ -4,7 +4,7 @@ use Prim.Native.Nat.{◌-◌, ◌*◌, ◌/◌, ◌^◌, ◌≤◌, ◌<◌}
 use lib.ListN.{length}
 use native.Mathlib.Omega.{arith}
 use Rattle.sets.specs.Set.{size}
-use Rattle.sets.specs.laws.Sizes.{size_le}
+use Rattle.sets.proofs.laws.Sizes.{size_le}
 use Rattle.network.specs.declared.Network.{Network}
 use Rattle.network.specs.Network.{with_all, table}
 use Rattle.network.specs.laws.Network.{bare}

@@ -1,7 +1,7 @@
 -- `engine::start::start` meets its contract. Assumes nothing.
 use borrow.Author.Rules.{rules}
 use mathlib.Core.Path.{refl}
-use Rattle.sets.specs.laws.Bools.{ne_eqb}
+use Rattle.sets.proofs.laws.Bools.{ne_eqb}
 use Rattle.engine.specs.laws.StartLaws.{begin_1, begin_2, begin_3, begin_4}
 use Rattle.engine.proofs.Lent.{starts_refused, starts_unsound, starts_0}
 use Rattle.engine.proofs.start.start.Goals as goal

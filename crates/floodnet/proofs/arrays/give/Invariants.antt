@@ -2,8 +2,8 @@
 use borrow.Author.Rules.{rules}
 use Prim.Native.Nat.{◌<◌}
 use Rattle.sets.specs.Set.{only, puts, size}
-use Rattle.sets.specs.laws.Lowest.{least_narrow}
-use Rattle.sets.specs.laws.Sizes.{size_less}
+use Rattle.sets.proofs.laws.Lowest.{least_narrow}
+use Rattle.sets.proofs.laws.Sizes.{size_less}
 use Rattle.lists.specs.laws.Visit.{Visiting, visiting_none, visiting_wide, visiting_done}
 use Rattle.floodnet.proofs.arrays.give.Given as goal
 

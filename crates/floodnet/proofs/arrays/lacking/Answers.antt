@@ -2,9 +2,9 @@
 use borrow.Author.Rules.{rules}
 use Prim.Native.Nat.{◌<◌}
 use Rattle.sets.specs.Set.{size}
-use Rattle.sets.specs.laws.Lowest.{least_narrow}
-use Rattle.sets.specs.laws.Sizes.{size_less}
-use Rattle.sets.specs.laws.Visits.{Visit, visit_none, visit_lt}
+use Rattle.sets.proofs.laws.Lowest.{least_narrow}
+use Rattle.sets.proofs.laws.Sizes.{size_less}
+use Rattle.sets.proofs.laws.Visits.{Visit, visit_none, visit_lt}
 use Rattle.floodnet.proofs.CodeArrays.{lacks, lacking_more, lacking_done}
 use Rattle.floodnet.proofs.arrays.lacking.Goals as goal
 

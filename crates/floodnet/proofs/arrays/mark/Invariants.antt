@@ -2,7 +2,7 @@
 use borrow.Author.Rules.{rules}
 use mathlib.Core.Path.{◌∙◌}
 use Rattle.sets.specs.Set.{only, puts, size}
-use Rattle.sets.specs.laws.Sizes.{size_less}
+use Rattle.sets.proofs.laws.Sizes.{size_less}
 use Rattle.lists.specs.laws.Visit.{Visiting, visiting_none, visiting_more, visiting_done, visits_edit}
 use Rattle.floodnet.proofs.arrays.mark.Given as goal
 

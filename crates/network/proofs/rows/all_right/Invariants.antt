@@ -5,9 +5,9 @@ use mathlib.Core.Logic.{⊎_elim}
 use Prim.Native.Nat.{ℕ, ◌-◌, ◌≤◌}
 use native.Mathlib.Omega.{arith}
 use lib.ListN.{get_or}
-use Rattle.sets.specs.laws.Bools.{not_yes, not_no}
+use Rattle.sets.proofs.laws.Bools.{not_yes, not_no}
 use Rattle.sets.specs.Any.{all}
-use Rattle.sets.specs.laws.Any.{all_start}
+use Rattle.sets.proofs.laws.Any.{all_start}
 use Rattle.network.specs.RowWords.{word_right}
 use Rattle.network.proofs.Tests.{all_keep, all_lost}
 use Rattle.network.proofs.rows.all_right.Given as goal

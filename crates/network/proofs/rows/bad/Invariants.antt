@@ -6,7 +6,7 @@ use Prim.Native.Nat.{ℕ, ◌-◌, ◌≤◌}
 use native.Mathlib.Omega.{arith}
 use lib.ListN.{get_or}
 use Rattle.sets.specs.Least.{lowest_of}
-use Rattle.sets.specs.laws.Least.{lowest_of_all, lowest_of_start, lowest_of_on, lowest_of_found}
+use Rattle.sets.proofs.laws.Least.{lowest_of_all, lowest_of_start, lowest_of_on, lowest_of_found}
 use Rattle.network.specs.RowWords.{word_right, bad_word}
 use Rattle.network.proofs.rows.bad.Given as goal
 

@@ -4,8 +4,8 @@ use mathlib.Core.Path.{◌≡◌, sym, ◌∙◌}
 use Prim.Native.Nat.{◌<◌}
 use native.Mathlib.Omega.{arith}
 use Rattle.sets.specs.Set.{lowest}
-use Rattle.sets.specs.laws.Bools.{not_yes, not_no}
-use Rattle.sets.specs.laws.Lowest.{least_narrow, rest_narrow}
+use Rattle.sets.proofs.laws.Bools.{not_yes, not_no}
+use Rattle.sets.proofs.laws.Lowest.{least_narrow, rest_narrow}
 use Rattle.network.proofs.ListingBack.{Backs, backs_none, backs_more, backs_all, backs_not}
 use Rattle.network.proofs.rules.list_back.Given as goal
 

@@ -2,7 +2,7 @@
 use borrow.Author.Rules.{rules}
 use mathlib.Core.Path.{sym, ap, ◌∙◌}
 use Rattle.sets.specs.Set.{lowest}
-use Rattle.sets.specs.laws.Lowest.{lowest_none}
+use Rattle.sets.proofs.laws.Lowest.{lowest_none}
 use Rattle.network.proofs.Tests.{near_lowest}
 use borrow.Author.Rules.{rules}
 use Rattle.network.proofs.rules.near_absent.Goals as goal

@@ -8,7 +8,7 @@ use lib.Dec.{eqb}
 use lib.ListN.{get_or}
 use borrow.Author.Tests.{eq-eqb, ne_eqb}
 use Rattle.sets.specs.Set.{set_of}
-use Rattle.sets.specs.laws.Build.{fill_none, fill_yes, fill_no}
+use Rattle.sets.proofs.laws.Build.{fill_none, fill_yes, fill_no}
 use Rattle.network.proofs.rules.ones.Given as goal
 
 abbrev pub invariant-loop-p : goal.invariant-loop-p

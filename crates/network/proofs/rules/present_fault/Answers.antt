@@ -10,7 +10,7 @@ use Rattle.network.specs.declared.Peer.{Peer}
 use Rattle.network.specs.Network.{neighbours_of}
 use Rattle.network.specs.Tests.{subscribers_of, near_absent, list_back, same_at}
 use borrow.Author.Tests.{eq-eqb, ne_eqb}
-use Rattle.sets.specs.laws.Bools.{not_yes, not_no}
+use Rattle.sets.proofs.laws.Bools.{not_yes, not_no}
 use Rattle.network.specs.declared.Network.{Network}
 use Rattle.network.specs.Rules.{own_right, near_at, near_right, back_at, back_right, known_right, apart_right}
 use Rattle.network.specs.laws.Faults.{fault_22, fault_23, fault_24, fault_25, fault_26, fault_none}

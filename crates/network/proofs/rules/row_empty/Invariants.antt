@@ -8,7 +8,7 @@ use lib.Dec.{eqb}
 use lib.ListN.{get_or}
 use borrow.Author.Tests.{eq-eqb, ne_eqb}
 use Rattle.sets.specs.Any.{all}
-use Rattle.sets.specs.laws.Any.{all_start}
+use Rattle.sets.proofs.laws.Any.{all_start}
 use Rattle.network.specs.Tests.{row_empty}
 use Rattle.network.proofs.Tests.{all_keep, all_lost}
 use Rattle.network.proofs.rules.row_empty.Given as goal

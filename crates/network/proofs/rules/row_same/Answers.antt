@@ -9,7 +9,7 @@ use lib.ListN.{get_or}
 use borrow.Author.Tests.{eq-eqb, ne_eqb}
 use Rattle.sets.specs.Set.{meet}
 use Rattle.sets.specs.Any.{all}
-use Rattle.sets.specs.laws.Any.{all_start}
+use Rattle.sets.proofs.laws.Any.{all_start}
 use Rattle.network.proofs.Tests.{all_keep, all_lost}
 use Rattle.network.proofs.rules.row_same.Goals as goal
 use Rattle.network.proofs.rules.row_same.Goals.{then-known-base, else-known-base}

@@ -7,7 +7,7 @@ use native.Mathlib.Omega.{arith}
 use lib.ListN.{replicate, length-replicate, get_or-replicate}
 use Rattle.sets.specs.Set.{has, when, digit, size}
 use Rattle.sets.specs.Rising.{members}
-use Rattle.sets.specs.laws.Sizes.{size_less}
+use Rattle.sets.proofs.laws.Sizes.{size_less}
 use Rattle.lists.specs.Tab.{tab}
 use Rattle.lists.specs.Visit.{visits}
 use Rattle.lists.specs.laws.Edit.{length_edit, get_or_edit}

@@ -4,8 +4,7 @@
 //
 // Read specs/Start.antt (the refusals before any event), specs/Run.antt (a run), specs/Alone.antt (the single forward, reading, writing),
 // specs/Draining.antt and specs/Imaging.antt. What follows from the promises, on bytes, is the crate pages. specs/laws/ has laws that others
-// cite (RunCounts.antt: what a run counts; RunSound.antt: soundness, and the pairs pending balance), proofs/ those of the functions' proofs;
-// proofs/relay_run is a walk by hand.
+// cite (RunCounts.antt: what a run counts; RunSound.antt: soundness, and the pairs pending balance), proofs/ those of the functions' proofs.
 #![tactic(auto)]
 
 mod alone; // alone.rt: reading, writing and the single forward
@@ -90,7 +89,7 @@ pub struct Ran {
 }
 
 // The run over a list of events. The host's own tally record is lent on, count by count, and is updated event by event; events are
-// taken through a reader. Proved by a walk.
+// taken through a reader.
 #[unsafe(no_mangle)]
 pub extern "C" fn relay_run(
     state: &mut [u8],

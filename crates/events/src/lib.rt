@@ -9,7 +9,7 @@
 // written is read, and 16 bytes that are read are what writing gives. specs/laws/Settled.antt: any two outcomes that satisfy a
 // promise here are equal.
 //
-// `new`, `next` and `event_at` hold a Reader and are proved by walks; callers use `event_at`, or `read_at`.
+// `new`, `next` and `event_at` hold a Reader; callers use `event_at`, or `read_at`.
 #![tactic(auto)]
 
 ghost use Rattle.std.specs.Prelude.{◌≡◌, ◌+◌, ◌*◌, ◌/◌, ◌≤◌, ◌<◌, length, ltb};

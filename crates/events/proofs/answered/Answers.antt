@@ -1,3 +1,4 @@
+-- `events::answered` meets its contract. Assumes nothing.
 use Rattle.events.specs.Event.{reading_of}
 use borrow.Author.Rules.{rules}
 use Rattle.events.proofs.answered.Goals as goal

@@ -1,3 +1,4 @@
+-- `events::decode` meets its contract. Assumes nothing.
 use borrow.Author.Tests.{ne_eqb}
 use Rattle.events.specs.Event.{reading_of, decode_of}
 use borrow.Author.Rules.{rules}

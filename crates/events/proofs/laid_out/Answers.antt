@@ -1,3 +1,4 @@
+-- `events::laid_out` meets its contract. Assumes nothing.
 use Rattle.events.specs.Writing.{fields_of}
 use borrow.Author.Rules.{rules}
 use Rattle.events.proofs.laid_out.Goals as goal

@@ -1,3 +1,4 @@
+-- `events::or_seven` meets its contract. Assumes nothing.
 use Rattle.events.specs.Event.{reading_of, or_seven}
 use Rattle.events.proofs.or_seven.Goals as goal
 

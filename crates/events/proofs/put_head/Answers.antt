@@ -1,3 +1,4 @@
+-- `events::put_head` meets its contract. Assumes nothing.
 use native.Mathlib.Omega.{arith}
 use lib.ListN.{length-set}
 use Rattle.events.specs.Writing.{put_head}

@@ -1,3 +1,4 @@
+-- `events::read_at` meets its contract. Assumes nothing.
 use mathlib.Core.Path.{ap, ◌∙◌}
 use Rattle.events.specs.Event.{reading_of, reading_at, decode_of}
 use borrow.Author.Tests.{le-ltb, lt-ltb}

@@ -1,3 +1,4 @@
+-- `events::record` meets its contract. Assumes nothing.
 use mathlib.Core.Path.{◌∙◌}
 use Rattle.events.specs.Writing.{record_of}
 use borrow.Author.Rules.{rules}

@@ -1,3 +1,4 @@
+-- `events::write_at` meets its contract. Assumes nothing.
 use mathlib.Core.Path.{refl}
 use borrow.Author.Tests.{le-ltb, lt-ltb}
 use Rattle.events.specs.Writing.{written_at}

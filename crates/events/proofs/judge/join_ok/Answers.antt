@@ -1,3 +1,4 @@
+-- `events::judge::join_ok` meets its contract. Assumes nothing.
 use Rattle.events.specs.Event.{join_ok}
 use borrow.Author.Tests.{le-ltb, lt-ltb}
 use borrow.Author.Rules.{rules}

@@ -1,3 +1,4 @@
+-- `events::judge::leave_ok` meets its contract. Assumes nothing.
 use mathlib.Core.Path.{sym, ◌∙◌}
 use Rattle.events.specs.Event.{leave_ok}
 use borrow.Author.Tests.{le-ltb, lt-ltb}

@@ -1,3 +1,4 @@
+-- `events::judge::no_message` meets its contract. Assumes nothing.
 use Rattle.events.specs.Event.{no_message}
 use borrow.Author.Tests.{eq-eqb, ne_eqb}
 use Rattle.events.proofs.judge.no_message.Goals as goal

@@ -1,3 +1,4 @@
+-- `events::judge::no_more` meets its contract. Assumes nothing.
 use Rattle.events.specs.Event.{no_more}
 use borrow.Author.Tests.{eq-eqb, ne_eqb}
 use Rattle.events.proofs.judge.no_more.Goals as goal

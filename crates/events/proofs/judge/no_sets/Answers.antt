@@ -1,3 +1,4 @@
+-- `events::judge::no_sets` meets its contract. Assumes nothing.
 use Rattle.events.specs.Event.{no_sets}
 use borrow.Author.Tests.{eq-eqb, ne_eqb}
 use borrow.Author.Rules.{rules}

@@ -1,3 +1,4 @@
+-- `events::judge::pair_ok` meets its contract. Assumes nothing.
 use Rattle.events.specs.Event.{pair_ok}
 use borrow.Author.Tests.{le-ltb, lt-ltb, eq-eqb, ne_eqb}
 use borrow.Author.Rules.{rules}

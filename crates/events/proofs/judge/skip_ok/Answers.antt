@@ -1,3 +1,4 @@
+-- `events::judge::skip_ok` meets its contract. Assumes nothing.
 use mathlib.Core.Path.{sym, ◌∙◌}
 use Rattle.events.specs.Event.{skip_ok}
 use borrow.Author.Tests.{eq-eqb, ne_eqb}

@@ -1,3 +1,4 @@
+-- `events::judge::topics_ok` meets its contract. Assumes nothing.
 use mathlib.Core.Path.{sym, ◌∙◌}
 use Rattle.events.specs.Event.{topics_ok}
 use borrow.Author.Tests.{le-ltb, lt-ltb}

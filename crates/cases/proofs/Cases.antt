@@ -1,5 +1,5 @@
 -- Every row of the table (specs/Cases.antt) holds: each is tested by working the definitions out. Assumes nothing.
-use Rattle.std.specs.Prelude.{◌≡◌, refl, Bool, true, false, List, [], ◌∷◌, ◌++◌}
+use Rattle.std.specs.Prelude.{◌≡◌, refl, Bool, true, List}
 use Rattle.std.specs.Int.Count.{ones}
 use Rattle.sets.specs.Any.{all}
 use Rattle.sets.specs.Set.{has, union, meet, minus, only, when, puts, strikes, empties, set_of, sift, size}
@@ -8,9 +8,8 @@ use Rattle.endian.specs.Le.{le, put_le}
 use Rattle.flooding.specs.Machine.{run, row, todo, round, drain}
 use Rattle.network.specs.State.{blank_net}
 use Rattle.network.specs.Rows.{blank_table}
-use Rattle.events.specs.declared.Fields.{Fields}
 use Rattle.events.specs.Event.{reading_of, read_of, reading_at, read_at, decode_of, fields_at, or_seven, skip_ok, pair_ok, topics_ok, leave_ok, join_ok, no_more, no_sets, no_message}
-use Rattle.events.specs.Writing.{fields_mk, put_fields, put_head}
+use Rattle.events.specs.Writing.{put_fields, put_head}
 use Rattle.floodnet.specs.Produce.{holders, is_new, produced}
 use Rattle.floodnet.specs.Forward.{moved, receivers, given, forwarded}
 use Rattle.floodnet.specs.Links.{link_up, link_down, cleared, placed, left, joined}
@@ -22,7 +21,7 @@ use Rattle.floodnet.specs.View.{view, fwd}
 use Rattle.broadcastnet.specs.Commit.{together, underway, without, image}
 use Rattle.drain.specs.Drain.{drain_of, quiet_of}
 use Rattle.engine.specs.Run.{tallied_of, turn_of, run_from, run_all}
-use Rattle.cases.specs.Rows.{join, produce, forward, leave, h_then, bytes, Row, answers, image_as, neighbours, drains, Each}
+use Rattle.cases.specs.Rows.{join, produce, forward, leave, h_then, bytes, Row, Each}
 use Rattle.cases.specs.Worked.{ended, small, proper, same, alike, answer_is, images_are, drained_is, works, every}
 use Rattle.cases.specs.laws.Worked.{each_holds, each_both}
 use Rattle.cases.specs.Cases.{a7_then, start, refused, leaving, joining, draining, again, table}

@@ -1,3 +1,2 @@
 // The proved table (document 01, "Proved table"): cases A1 to A12 hold for the definitions. It has no code: read specs/Cases.antt.
 #![tactic(auto)]
-

@@ -1,5 +1,5 @@
 -- The pairs of one peer and the messages of a word, and how they are visited, the least first. For the loops of the drain. Assumes nothing.
-use Rattle.std.specs.Prelude.{Bool, List, [], ◌∷◌, ◌++◌, ℕ, zero, suc, ◌+◌, eqb, get_or}
+use Rattle.std.specs.Prelude.{Bool, List, [], ◌∷◌, ◌++◌, ℕ, zero, suc, eqb, get_or}
 use Rattle.sets.specs.Any.{all}
 use Rattle.sets.specs.Set.{has, count}
 use Rattle.sets.specs.Rising.{rising}

@@ -4,7 +4,6 @@ use Rattle.events.specs.declared.Read.{Read}
 use Rattle.events.specs.declared.Read.TheVariants.{Taken, End, Unknown, Unfit}
 use Rattle.events.specs.Event.{read_at}
 use Rattle.events.specs.declared.kind.Kind.{Kind}
-use Rattle.events.specs.declared.kind.Kind.TheVariants.{Skip}
 use Rattle.events.specs.Kind.{kind_of}
 
 -- the kind of what stands at a place, Skip where there is no event

@@ -6,4 +6,3 @@
 // asked of a concrete state). proofs/laws/Floods.antt, Drain.antt and Settled.antt prove the page; proofs/laws/Loop.antt has laws for the
 // loops of a drain.
 #![tactic(auto)]
-

@@ -4,7 +4,7 @@ use mathlib.Core.Bool.{Bool, true, false, not}
 use Prim.Native.Nat.{ℕ, ◌^◌, ◌<◌}
 use native.Mathlib.Omega.{arith}
 use lib.Dec.{eqb}
-use borrow.Author.Tests.{not-true, not-false, eq-eqb, ne_eqb}
+use borrow.Author.Tests.{eq-eqb, ne_eqb}
 use Rattle.sets.specs.Set.{has, minus, sift, size, Subset}
 use Rattle.sets.proofs.laws.Bools.{and_yes}
 use Rattle.sets.proofs.laws.Build.{has_sifted}

@@ -3,4 +3,3 @@
 // an array keeps `Filled`, an `edit` or `Visiting` (specs/laws/Visit.antt), and a contract then says what the whole array is by one equation.
 // Read specs/Tab.antt, then specs/Edit.antt and specs/Visit.antt.
 #![tactic(auto)]
-

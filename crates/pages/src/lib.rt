@@ -7,4 +7,3 @@
 // specs/ReachPage.antt: forwards that a host makes in any order, by a run or one by one, and what the drain leaves (demand 3; its words and its theorem
 // are drain's specs/Reach.antt). Each is proved of whatever satisfies the promise of the entry point, and of nothing else. The other files prove them.
 #![tactic(auto)]
-

@@ -5,4 +5,3 @@
 // specs/Receivers.antt. It stands apart from floodnet, whose definitions it speaks of, so that an edit there does not pay for these proofs. The
 // engine's page of a run says it of every network on the way.
 #![tactic(auto)]
-

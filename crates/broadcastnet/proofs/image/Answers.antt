@@ -1,5 +1,4 @@
 -- `broadcastnet::image` meets its contract. Assumes nothing.
-use borrow.Author.Rules.{rules}
 use Rattle.broadcastnet.proofs.laws.CommitLaws.{image_net_made}
 use Rattle.broadcastnet.proofs.image.Goals as goal
 

@@ -1,11 +1,9 @@
 -- `broadcastnet::settled` meets its contract: after q turns the first q sets are those of `without`. Assumes nothing.
 use borrow.Author.Rules.{rules}
 use mathlib.Core.Path.{◌≡◌}
-use Prim.Native.Nat.{ℕ, ◌-◌, ◌≤◌}
+use Prim.Native.Nat.{ℕ}
 use native.Mathlib.Omega.{arith}
-use lib.ListN.{get_or, length-replicate}
-use Rattle.sets.specs.Set.{minus}
-use Rattle.lists.specs.Tab.{Filled}
+use lib.ListN.{length-replicate}
 use Rattle.lists.specs.laws.Tab.{filled_none, filled_more}
 use Rattle.broadcastnet.proofs.laws.CommitLaws.{without_filled}
 use Rattle.broadcastnet.proofs.settled.Goals as goal

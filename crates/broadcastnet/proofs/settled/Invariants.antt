@@ -1,13 +1,8 @@
 -- The invariants of `broadcastnet::settled`. Assumes nothing.
-use borrow.Author.Rules.{rules}
-use mathlib.Core.Path.{◌≡◌}
 use Prim.Native.Nat.{ℕ, ◌-◌, ◌≤◌}
-use native.Mathlib.Omega.{arith}
-use lib.ListN.{get_or, length-replicate}
+use lib.ListN.{get_or}
 use Rattle.sets.specs.Set.{minus}
 use Rattle.lists.specs.Tab.{Filled}
-use Rattle.lists.specs.laws.Tab.{filled_none, filled_more}
-use Rattle.broadcastnet.proofs.laws.CommitLaws.{without_filled}
 use Rattle.broadcastnet.proofs.settled.Given as goal
 
 abbrev pub invariant-loop-q : goal.invariant-loop-q

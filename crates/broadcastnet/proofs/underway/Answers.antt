@@ -1,7 +1,6 @@
 -- `broadcastnet::underway` meets its contract: after p turns it has what the first p words have together. Assumes nothing.
 use borrow.Author.Rules.{rules}
 use mathlib.Core.Path.{◌≡◌, refl}
-use Prim.Native.Nat.{◌-◌, ◌≤◌}
 use native.Mathlib.Omega.{arith}
 use Rattle.broadcastnet.specs.Commit.{together}
 use Rattle.broadcastnet.proofs.laws.CommitLaws.{together_more}

@@ -1,10 +1,7 @@
 -- The invariants of `broadcastnet::underway`. Assumes nothing.
-use borrow.Author.Rules.{rules}
-use mathlib.Core.Path.{◌≡◌, refl}
+use mathlib.Core.Path.{◌≡◌}
 use Prim.Native.Nat.{◌-◌, ◌≤◌}
-use native.Mathlib.Omega.{arith}
 use Rattle.broadcastnet.specs.Commit.{together}
-use Rattle.broadcastnet.proofs.laws.CommitLaws.{together_more}
 use Rattle.broadcastnet.proofs.underway.Given as goal
 
 abbrev pub invariant-loop-p : goal.invariant-loop-p

@@ -1,5 +1,4 @@
 -- `console::answer` meets its contract. Assumes nothing.
-use borrow.Author.Rules.{rules}
 use Rattle.console.proofs.ConsoleLaws.{printed_as, state_part, table_part, events_part, flood_long, flood_run}
 use Rattle.console.proofs.answer.Goals as goal
 

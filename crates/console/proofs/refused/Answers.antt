@@ -1,5 +1,4 @@
 -- `console::refused` meets its contract. Assumes nothing.
-use borrow.Author.Rules.{rules}
 use Rattle.console.proofs.ConsoleLaws.{printed_report, refused_text_lem}
 use Rattle.console.proofs.refused.Goals as goal
 

@@ -1,5 +1,4 @@
 -- `console::run` meets its contract. Assumes nothing.
-use borrow.Author.Rules.{rules}
 use mathlib.Core.Path.{sym, subst}
 use Rattle.network.specs.Network.{Rows}
 use Rattle.engine.specs.declared.Begun.{Begun}

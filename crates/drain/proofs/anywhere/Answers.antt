@@ -1,11 +1,9 @@
 -- `drain::anywhere` meets its contract. The loop has the messages of the words below p. Assumes nothing.
 use mathlib.Core.Path.{◌≡◌, sym, ap, ◌∙◌}
-use Prim.Native.Nat.{ℕ, ◌-◌, ◌≤◌}
+use Prim.Native.Nat.{ℕ}
 use native.Mathlib.Omega.{arith}
-use borrow.Author.Rules.{rules}
 use lib.ListN.{get_or}
 use Rattle.sets.specs.Set.{union}
-use Rattle.drain.specs.AtOnce.{anywhere_of}
 use Rattle.drain.proofs.Filing.{anywhere_none, anywhere_more}
 use Rattle.drain.proofs.anywhere.Goals as goal
 

@@ -1,12 +1,7 @@
 -- The invariants of `drain::anywhere`. Assumes nothing.
-use mathlib.Core.Path.{◌≡◌, sym, ap, ◌∙◌}
-use Prim.Native.Nat.{ℕ, ◌-◌, ◌≤◌}
-use native.Mathlib.Omega.{arith}
-use borrow.Author.Rules.{rules}
-use lib.ListN.{get_or}
-use Rattle.sets.specs.Set.{union}
+use mathlib.Core.Path.{◌≡◌}
+use Prim.Native.Nat.{◌-◌, ◌≤◌}
 use Rattle.drain.specs.AtOnce.{anywhere_of}
-use Rattle.drain.proofs.Filing.{anywhere_none, anywhere_more}
 use Rattle.drain.proofs.anywhere.Given as goal
 
 abbrev pub invariant-loop-p : goal.invariant-loop-p

@@ -1,9 +1,7 @@
 -- `drain::by_topic` meets its contract. The loop has put the messages visited into the words of their topics. Assumes nothing.
-use Prim.Native.Nat.{◌<◌}
 use native.Mathlib.Omega.{arith}
 use borrow.Author.Rules.{rules}
-use lib.ListN.{get_or}
-use Rattle.drain.proofs.Filing.{Sorting, sorting_none, sorting_more, sorting_done}
+use Rattle.drain.proofs.Filing.{sorting_none, sorting_more, sorting_done}
 use Rattle.drain.proofs.by_topic.Goals as goal
 
 pub loop-left-init : goal.loop-left-init

@@ -1,9 +1,5 @@
 -- The invariants of `drain::by_topic`. Assumes nothing.
-use Prim.Native.Nat.{◌<◌}
-use native.Mathlib.Omega.{arith}
-use borrow.Author.Rules.{rules}
-use lib.ListN.{get_or}
-use Rattle.drain.proofs.Filing.{Sorting, sorting_none, sorting_more, sorting_done}
+use Rattle.drain.proofs.Filing.{Sorting}
 use Rattle.drain.proofs.by_topic.Given as goal
 
 abbrev pub invariant-loop-left : goal.invariant-loop-left

@@ -1,15 +1,10 @@
 -- `drain::drain_listed` meets its contract. The peers below p have had their turn, with the pairs that were pending when the round began. Assumes nothing.
 use mathlib.Core.Path.{◌≡◌, refl}
-use mathlib.Core.List.{List, []}
-use Prim.Native.Nat.{ℕ, ◌-◌, ◌≤◌}
+use mathlib.Core.List.{[]}
 use native.Mathlib.Omega.{arith}
 use borrow.Author.Rules.{rules}
-use Rattle.network.specs.declared.Network.{Network}
 use Rattle.network.specs.laws.Network.{bare}
-use Rattle.floodnet.specs.View.{fwd}
-use Rattle.floodnet.specs.Lent.{with_messages}
-use Rattle.network.specs.Network.{table}
-use Rattle.drain.specs.laws.Turns.{Peers, peers_none, peers_more}
+use Rattle.drain.specs.laws.Turns.{peers_none, peers_more}
 use Rattle.drain.proofs.drain_listed.Goals as goal
 
 pub loop-p-init : goal.loop-p-init

@@ -1,15 +1,11 @@
 -- The invariants of `drain::drain_listed`. Assumes nothing.
-use mathlib.Core.Path.{◌≡◌, refl}
-use mathlib.Core.List.{List, []}
+use mathlib.Core.List.{List}
 use Prim.Native.Nat.{ℕ, ◌-◌, ◌≤◌}
-use native.Mathlib.Omega.{arith}
-use borrow.Author.Rules.{rules}
 use Rattle.network.specs.declared.Network.{Network}
-use Rattle.network.specs.laws.Network.{bare}
 use Rattle.floodnet.specs.View.{fwd}
 use Rattle.floodnet.specs.Lent.{with_messages}
 use Rattle.network.specs.Network.{table}
-use Rattle.drain.specs.laws.Turns.{Peers, peers_none, peers_more}
+use Rattle.drain.specs.laws.Turns.{Peers}
 use Rattle.drain.proofs.drain_listed.Given as goal
 
 abbrev pub invariant-loop-p : goal.invariant-loop-p

@@ -1,16 +1,13 @@
 -- `drain::drain_peer` meets its contract. The loop keeps what the pairs of `rest` still have to do. Assumes nothing.
 use mathlib.Core.Path.{◌≡◌}
 use mathlib.Core.Logic.{inl, inr}
-use mathlib.Core.List.{List, []}
-use Prim.Native.Nat.{ℕ, ◌-◌}
+use mathlib.Core.List.{[]}
 use native.Mathlib.Omega.{arith}
 use borrow.Author.Rules.{rules}
-use Rattle.network.specs.declared.Network.{Network}
 use Rattle.network.specs.laws.Network.{bare}
 use Rattle.floodnet.specs.View.{fwd}
-use Rattle.floodnet.specs.Lent.{with_messages}
 use Rattle.network.specs.Network.{table}
-use Rattle.drain.specs.laws.Pairs.{Walk, walk_none, walk_more, walk_done}
+use Rattle.drain.specs.laws.Pairs.{walk_none, walk_more, walk_done}
 use Rattle.drain.proofs.AtOnceForwards.{all_at_once}
 use Rattle.drain.proofs.drain_peer.Goals as goal
 

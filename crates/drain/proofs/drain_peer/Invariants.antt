@@ -1,17 +1,11 @@
 -- The invariants of `drain::drain_peer`. Assumes nothing.
-use mathlib.Core.Path.{◌≡◌}
-use mathlib.Core.Logic.{inl, inr}
-use mathlib.Core.List.{List, []}
+use mathlib.Core.List.{List}
 use Prim.Native.Nat.{ℕ, ◌-◌}
-use native.Mathlib.Omega.{arith}
-use borrow.Author.Rules.{rules}
 use Rattle.network.specs.declared.Network.{Network}
-use Rattle.network.specs.laws.Network.{bare}
 use Rattle.floodnet.specs.View.{fwd}
 use Rattle.floodnet.specs.Lent.{with_messages}
 use Rattle.network.specs.Network.{table}
-use Rattle.drain.specs.laws.Pairs.{Walk, walk_none, walk_more, walk_done}
-use Rattle.drain.proofs.AtOnceForwards.{all_at_once}
+use Rattle.drain.specs.laws.Pairs.{Walk}
 use Rattle.drain.proofs.drain_peer.Given as goal
 
 abbrev pub invariant-loop-made : goal.invariant-loop-made

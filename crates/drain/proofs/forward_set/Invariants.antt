@@ -1,7 +1,5 @@
 -- The invariants of `drain::forward_set`. Assumes nothing.
-use borrow.Author.Rules.{rules}
-use mathlib.Core.Logic.{⊎_elim}
-use Rattle.drain.proofs.AtOnce.{Spreading, spreading_none, spreading_more, spreading_skip, spreading_done}
+use Rattle.drain.proofs.AtOnce.{Spreading}
 use Rattle.drain.proofs.forward_set.Given as goal
 
 abbrev pub invariant-loop-left : goal.invariant-loop-left

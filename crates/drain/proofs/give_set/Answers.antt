@@ -1,12 +1,10 @@
 -- `drain::give_set` meets its contract. Assumes nothing.
 use borrow.Author.Rules.{rules}
 use mathlib.Core.Path.{ap, ◌∙◌}
-use Prim.Native.Nat.{◌<◌}
-use lib.ListN.{get_or}
-use Rattle.sets.specs.Set.{union, minus, puts, size}
+use Rattle.sets.specs.Set.{union, puts}
 use Rattle.sets.proofs.laws.Lowest.{least_narrow}
 use Rattle.sets.proofs.laws.Sizes.{size_less}
-use Rattle.lists.specs.laws.Visit.{Visiting, visiting_none, visiting_wide, visiting_done, visits_edit}
+use Rattle.lists.specs.laws.Visit.{visiting_none, visiting_wide, visiting_done, visits_edit}
 use Rattle.drain.specs.AtOnce.{gives}
 use Rattle.drain.proofs.give_set.Goals as goal
 

@@ -1,9 +1,7 @@
 -- `drain::topics_of` meets its contract. The loop has the topics of the messages visited. Assumes nothing.
-use Prim.Native.Nat.{◌<◌}
 use native.Mathlib.Omega.{arith}
 use borrow.Author.Rules.{rules}
-use lib.ListN.{get_or}
-use Rattle.drain.proofs.Filing.{Using, using_none, using_more, using_done}
+use Rattle.drain.proofs.Filing.{using_none, using_more, using_done}
 use Rattle.drain.proofs.topics_of.Goals as goal
 
 pub loop-left-init : goal.loop-left-init

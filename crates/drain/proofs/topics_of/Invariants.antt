@@ -1,9 +1,5 @@
 -- The invariants of `drain::topics_of`. Assumes nothing.
-use Prim.Native.Nat.{◌<◌}
-use native.Mathlib.Omega.{arith}
-use borrow.Author.Rules.{rules}
-use lib.ListN.{get_or}
-use Rattle.drain.proofs.Filing.{Using, using_none, using_more, using_done}
+use Rattle.drain.proofs.Filing.{Using}
 use Rattle.drain.proofs.topics_of.Given as goal
 
 abbrev pub invariant-loop-left : goal.invariant-loop-left

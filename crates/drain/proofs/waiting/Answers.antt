@@ -1,14 +1,9 @@
 -- `drain::waiting` meets its contract. The loop has added up the words of the peers below p. Assumes nothing.
 use mathlib.Core.Path.{◌≡◌, sym, ap₂, ◌∙◌}
-use Prim.Native.Nat.{ℕ, ◌+◌, ◌-◌, ◌*◌, ◌≤◌}
+use Prim.Native.Nat.{◌+◌}
 use native.Mathlib.Omega.{arith}
-use borrow.Author.Rules.{rules}
-use lib.Dec.{eqb}
 use lib.ListN.{get_or}
-use Rattle.sets.specs.Any.{all}
 use Rattle.sets.proofs.laws.Any.{all_start, all_more}
-use Rattle.sets.specs.Set.{has, count}
-use Rattle.sets.specs.Sums.{sum}
 use Rattle.sets.proofs.laws.Sums.{sum_start, sum_more}
 use Rattle.drain.specs.Pairs.{waiting_of}
 use Rattle.drain.specs.laws.Pairs.{empty_more}

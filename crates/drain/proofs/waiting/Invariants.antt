@@ -1,17 +1,11 @@
 -- The invariants of `drain::waiting`. Assumes nothing.
-use mathlib.Core.Path.{◌≡◌, sym, ap₂, ◌∙◌}
-use Prim.Native.Nat.{ℕ, ◌+◌, ◌-◌, ◌*◌, ◌≤◌}
-use native.Mathlib.Omega.{arith}
-use borrow.Author.Rules.{rules}
+use mathlib.Core.Path.{◌≡◌}
+use Prim.Native.Nat.{ℕ, ◌-◌, ◌*◌, ◌≤◌}
 use lib.Dec.{eqb}
 use lib.ListN.{get_or}
 use Rattle.sets.specs.Any.{all}
-use Rattle.sets.proofs.laws.Any.{all_start, all_more}
 use Rattle.sets.specs.Set.{has, count}
 use Rattle.sets.specs.Sums.{sum}
-use Rattle.sets.proofs.laws.Sums.{sum_start, sum_more}
-use Rattle.drain.specs.Pairs.{waiting_of}
-use Rattle.drain.specs.laws.Pairs.{empty_more}
 use Rattle.drain.proofs.waiting.Given as goal
 
 abbrev pub invariant-loop-p : goal.invariant-loop-p

@@ -1,5 +1,4 @@
 -- `endian::put4` meets its contract: four stores are `put_le 4`. A store keeps the length, so the next one is in range. Assumes nothing.
-use borrow.Author.Rules.{rules}
 use native.Mathlib.Omega.{arith}
 use mathlib.Core.Path.{sym}
 use lib.ListN.{length-set}

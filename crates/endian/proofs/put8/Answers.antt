@@ -1,5 +1,4 @@
 -- `endian::put8` meets its contract: its low half is written, then its high half. Assumes nothing.
-use borrow.Author.Rules.{rules}
 use Rattle.endian.specs.laws.Le.{put_le_halves}
 use Rattle.endian.proofs.put8.Goals as goal
 

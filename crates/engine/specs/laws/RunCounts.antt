@@ -16,7 +16,7 @@ use Rattle.events.specs.Kind.{kind_of, code_of, alike}
 use Rattle.floodnet.specs.Step.{refusal, receivers_of, turned_of}
 use Rattle.floodnet.specs.laws.StepLaws.{turned_kind}
 use Rattle.engine.specs.declared.Tally.{Tally}
-use Rattle.engine.specs.Run.{tally, tallied_of, turn_of, Final, run_from}
+use Rattle.engine.specs.Run.{tallied_of, turn_of, Final, run_from}
 use Rattle.engine.specs.RunLaws.{outcome_at, tally_after}
 use Rattle.engine.specs.laws.RunLaws.{run_ind}
 use Rattle.engine.specs.RunCounts.{kind_in, kind_at}

@@ -1,7 +1,7 @@
 -- Over a run from a sound network: every network on the way is sound, and the pairs pending balance. Assumes nothing.
 --   "Soundness holds after every accepted event."
 --   "Pending pairs at the end = pending pairs at the start + produced + deliveries - forwards."
-use Rattle.std.specs.Prelude.{◌≡◌, refl, ◌⊎◌, List, ℕ, zero, suc, ◌+◌, ◌-◌}
+use Rattle.std.specs.Prelude.{◌≡◌, refl, ◌⊎◌, List, ℕ, zero, suc, ◌+◌}
 use Rattle.std.proofs.Common.{inl, inr, arith}
 use Rattle.sets.specs.Set.{digit, size}
 use Rattle.sets.proofs.laws.Sizes.{size_none}

@@ -1,6 +1,5 @@
 -- `events::answered` meets its contract. Assumes nothing.
 use Rattle.events.specs.Event.{reading_of}
-use borrow.Author.Rules.{rules}
 use Rattle.events.proofs.answered.Goals as goal
 
 pub returns-in-Taken : goal.returns-in-Taken

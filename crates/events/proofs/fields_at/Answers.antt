@@ -1,6 +1,5 @@
 -- `events::fields_at` meets its contract. Assumes nothing.
 use Rattle.events.specs.Event.{fields_at}
-use borrow.Author.Rules.{rules}
 use Rattle.events.proofs.fields_at.Goals as goal
 
 pub returns : goal.returns

@@ -1,6 +1,5 @@
 -- `events::laid_out` meets its contract. Assumes nothing.
 use Rattle.events.specs.Writing.{fields_of}
-use borrow.Author.Rules.{rules}
 use Rattle.events.proofs.laid_out.Goals as goal
 
 pub returns-in-Skip : goal.returns-in-Skip

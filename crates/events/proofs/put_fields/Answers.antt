@@ -1,6 +1,5 @@
 -- `events::put_fields` meets its contract. Assumes nothing.
 use Rattle.events.specs.Writing.{put_fields}
-use borrow.Author.Rules.{rules}
 use Rattle.events.proofs.put_fields.Goals as goal
 
 pub returns : goal.returns

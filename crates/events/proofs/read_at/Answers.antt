@@ -2,7 +2,6 @@
 use mathlib.Core.Path.{ap, ◌∙◌}
 use Rattle.events.specs.Event.{reading_of, reading_at, decode_of}
 use borrow.Author.Tests.{le-ltb, lt-ltb}
-use borrow.Author.Rules.{rules}
 use Rattle.events.proofs.read_at.Goals as goal
 
 pub returns-then-bytes-place : goal.returns-then-bytes-place

@@ -1,7 +1,6 @@
 -- `events::record` meets its contract. Assumes nothing.
 use mathlib.Core.Path.{◌∙◌}
 use Rattle.events.specs.Writing.{record_of}
-use borrow.Author.Rules.{rules}
 use Rattle.events.proofs.record.Goals as goal
 
 pub returns : goal.returns

@@ -2,7 +2,6 @@
 use mathlib.Core.Path.{refl}
 use borrow.Author.Tests.{le-ltb, lt-ltb}
 use Rattle.events.specs.Writing.{written_at}
-use borrow.Author.Rules.{rules}
 use Rattle.events.proofs.write_at.Goals as goal
 
 pub returns-then-bytes-place : goal.returns-then-bytes-place

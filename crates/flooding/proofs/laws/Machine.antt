@@ -1,5 +1,5 @@
 -- Laws of specs/Machine.antt. Assumes nothing.
-use Rattle.std.specs.Prelude.{◌≡◌, true, ℕ, ◌-◌}
+use Rattle.std.specs.Prelude.{◌≡◌, true, ℕ}
 use Rattle.flooding.specs.Network.{Net, Sound, forward}
 
 -- A network shows itself.

@@ -1,5 +1,4 @@
 -- `floodnet::step` meets its contract. Assumes nothing.
-use borrow.Author.Rules.{rules}
 use mathlib.Core.Path.{refl}
 use Rattle.network.specs.Network.{with_pubs, with_subs, with_neighbours, with_pending, with_seen, with_known}
 use Rattle.events.specs.Fits.{EventFits}

@@ -10,7 +10,7 @@ use Rattle.sets.proofs.laws.Members.{has_none}
 use Rattle.network.specs.declared.Peer.{Peer}
 use Rattle.network.specs.declared.Topic.{Topic}
 use Rattle.network.specs.declared.Network.{Network}
-use Rattle.network.specs.Network.{peer, topic, spot, present, subscribed, linked, pending, knows}
+use Rattle.network.specs.Network.{peer, topic, spot, present, subscribed, linked, knows}
 use Rattle.network.specs.Sound.{Sound}
 use Rattle.floodnet.specs.Links.{left, joined}
 use Rattle.floodnet.specs.laws.Places.{spot_of}

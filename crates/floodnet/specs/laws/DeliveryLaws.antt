@@ -13,7 +13,7 @@ use Rattle.network.specs.declared.Topic.{Topic}
 use Rattle.network.specs.declared.Message.{Message}
 use Rattle.network.specs.declared.Network.{Network}
 use Rattle.network.specs.declared.Table.{Table}
-use Rattle.network.specs.Network.{peer, with_pending, known_of, present, pending, topic_of, Shaped}
+use Rattle.network.specs.Network.{peer, with_pending, known_of, present, topic_of, Shaped}
 use Rattle.network.specs.Sound.{Sound}
 use Rattle.network.specs.laws.SoundLaws.{knows_linked, knows_present}
 use Rattle.floodnet.specs.Forward.{moved, receivers, given, forwarded}

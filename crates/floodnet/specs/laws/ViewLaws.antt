@@ -12,7 +12,7 @@ use Rattle.network.specs.declared.Peer.{Peer}
 use Rattle.network.specs.declared.Topic.{Topic}
 use Rattle.network.specs.declared.Network.{Network}
 use Rattle.network.specs.declared.Table.{Table}
-use Rattle.network.specs.Network.{with_pending, with_seen, peer, topic, message, pending_of, spot, present, subscribed, linked, pending, knows, topic_of, Shaped, Rows}
+use Rattle.network.specs.Network.{with_pending, with_seen, peer, topic, message, pending_of, spot, present, subscribed, linked, knows, topic_of, Shaped, Rows}
 use Rattle.network.specs.Sound.{Sound}
 use Rattle.network.specs.laws.SoundLaws.{present_peer, pending_peer, pending_message, pending_present, saw_message, saw_present, knows_present}
 use Rattle.floodnet.specs.Forward.{forwarded, given, moved}

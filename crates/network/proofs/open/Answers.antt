@@ -1,5 +1,4 @@
 -- `network::open` meets its contract. Assumes nothing.
-use borrow.Author.Rules.{rules}
 use Rattle.network.specs.laws.Network.{bare}
 use Rattle.network.specs.laws.Opening.{net_is, verdict_at_lem, opens_1, opens_verdict}
 use Rattle.network.proofs.open.Goals as goal

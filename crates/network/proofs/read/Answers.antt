@@ -1,7 +1,5 @@
 -- `network::read` meets its contract. Assumes nothing.
-use borrow.Author.Rules.{rules}
-use mathlib.Core.Path.{◌≡◌, ◌∙◌}
-use Rattle.network.specs.State.{verdict_at}
+use mathlib.Core.Path.{◌∙◌}
 use Rattle.network.specs.laws.Opening.{verdict_at_lem, open_1, open_refused, open_0}
 use Rattle.network.proofs.read.Goals as goal
 

@@ -1,10 +1,7 @@
 -- `network::read_table` meets its contract. Assumes nothing.
-use borrow.Author.Rules.{rules}
-use mathlib.Core.Path.{◌≡◌, ◌∙◌}
-use Rattle.network.specs.Rows.{bad_row}
+use mathlib.Core.Path.{◌∙◌}
 use Rattle.network.specs.laws.Listing.{list_2, list_4, list_0}
 use Rattle.network.proofs.RowWords.{bad_is, table_is}
-use borrow.Author.Rules.{rules}
 use Rattle.network.proofs.read_table.Goals as goal
 
 pub returns-then-table-ne256 : goal.returns-then-table-ne256

@@ -1,5 +1,4 @@
 -- `network::refused` meets its contract. Assumes nothing.
-use borrow.Author.Rules.{rules}
 use mathlib.Core.Path.{ap}
 use Rattle.network.specs.State.{opened}
 use Rattle.network.proofs.refused.Goals as goal

@@ -1,12 +1,9 @@
 -- `network::save` meets its contract. Assumes nothing.
 use borrow.Author.Rules.{rules}
 use mathlib.Core.Path.{◌≡◌}
-use Prim.Native.Nat.{◌-◌, ◌*◌, ◌≤◌}
 use native.Mathlib.Omega.{arith}
-use Rattle.lists.specs.Tab.{Filled}
 use Rattle.lists.specs.laws.Tab.{filled_none, filled_all}
-use Rattle.network.specs.Network.{mk}
-use Rattle.network.specs.State.{byte_of, bytes_of}
+use Rattle.network.specs.State.{bytes_of}
 use Rattle.network.specs.laws.Storing.{filled_record}
 use Rattle.network.proofs.save.Goals as goal
 

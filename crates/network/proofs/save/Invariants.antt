@@ -1,13 +1,8 @@
 -- The invariants of `network::save`. Assumes nothing.
-use borrow.Author.Rules.{rules}
-use mathlib.Core.Path.{◌≡◌}
 use Prim.Native.Nat.{◌-◌, ◌*◌, ◌≤◌}
-use native.Mathlib.Omega.{arith}
 use Rattle.lists.specs.Tab.{Filled}
-use Rattle.lists.specs.laws.Tab.{filled_none, filled_all}
 use Rattle.network.specs.Network.{mk}
-use Rattle.network.specs.State.{byte_of, bytes_of}
-use Rattle.network.specs.laws.Storing.{filled_record}
+use Rattle.network.specs.State.{byte_of}
 use Rattle.network.proofs.save.Given as goal
 
 abbrev pub invariant-loop-i : goal.invariant-loop-i

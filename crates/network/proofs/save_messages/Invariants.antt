@@ -1,11 +1,8 @@
 -- The invariants of `network::save_messages`. Assumes nothing.
-use borrow.Author.Rules.{rules}
-use mathlib.Core.Path.{◌≡◌, refl, ap, ◌∙◌}
+use mathlib.Core.Path.{◌≡◌}
 use Prim.Native.Nat.{◌-◌, ◌≤◌}
-use native.Mathlib.Omega.{arith}
 use lib.ListN.{length}
 use Rattle.network.specs.Storing.{put_messages}
-use Rattle.network.specs.laws.Messages.{length_put_messages, put_messages_more}
 use Rattle.network.proofs.save_messages.Given as goal
 
 abbrev pub invariant-loop-p : goal.invariant-loop-p

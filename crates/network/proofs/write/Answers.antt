@@ -1,7 +1,5 @@
 -- `network::write` meets its contract. Assumes nothing.
-use borrow.Author.Rules.{rules}
-use mathlib.Core.Path.{◌≡◌, ◌∙◌}
-use Rattle.network.specs.Rules.{verdict_of}
+use mathlib.Core.Path.{◌∙◌}
 use Rattle.network.specs.laws.Faults.{verdict_tab}
 use Rattle.network.specs.laws.Writing.{write_1, write_refused, write_0}
 use Rattle.network.proofs.write.Goals as goal

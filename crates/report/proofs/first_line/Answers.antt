@@ -1,5 +1,4 @@
 -- `report::first_line` meets its contract: its parts one after the other, and each has room. Assumes nothing.
-use borrow.Author.Rules.{rules}
 use native.Mathlib.Omega.{arith}
 use Rattle.report.specs.laws.TextLaws.{length_byte, spaced_long}
 use Rattle.report.proofs.Write.{wrote_then}
@@ -23,8 +22,7 @@ newline-requires c =
 
 pub returns : goal.returns
 unfolding first_line flood
-returns c =
-    (
-      wrote_then (wrote_then (wrote_then (wrote_then c.copy-word.ensures c.number-first.ensures) c.spaced-second.ensures) c.spaced-third.ensures) c.newline.ensures,
-      omega (arith, length_byte c.args.number c.ranges.number.fits, spaced_long c.args.place c.ranges.place.fits, spaced_long c.args.accepted c.ranges.accepted.fits),
-    )
+returns c = (
+  wrote_then (wrote_then (wrote_then (wrote_then c.copy-word.ensures c.number-first.ensures) c.spaced-second.ensures) c.spaced-third.ensures) c.newline.ensures,
+  omega (arith, length_byte c.args.number c.ranges.number.fits, spaced_long c.args.place c.ranges.place.fits, spaced_long c.args.accepted c.ranges.accepted.fits),
+)

@@ -1,6 +1,4 @@
 -- `report::peer_line` meets its contract: its parts one after the other, and each has room. Assumes nothing.
-use borrow.Author.Rules.{rules}
-use Prim.Native.Nat.{ℕ}
 use native.Mathlib.Omega.{arith}
 use Rattle.report.specs.laws.TextLaws.{length_count, spaced_count}
 use Rattle.report.proofs.Write.{wrote_then}

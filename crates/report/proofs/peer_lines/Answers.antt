@@ -1,12 +1,9 @@
 -- `report::peer_lines` meets its contract. Assumes nothing.
 use borrow.Author.Rules.{rules}
-use mathlib.Core.Path.{◌≡◌}
 use native.Mathlib.Omega.{arith}
-use lib.ListN.{length}
-use Rattle.sets.specs.Set.{size}
 use Rattle.sets.proofs.laws.Sizes.{size_less}
 use Rattle.report.specs.Report.{peer_lines, peer_line}
-use Rattle.report.proofs.ReportLaws.{Lining, lines_none, lines_room, lines_more, lines_all}
+use Rattle.report.proofs.ReportLaws.{lines_none, lines_room, lines_more, lines_all}
 use Rattle.report.proofs.peer_lines.Goals as goal
 
 pub loop-left-init : goal.loop-left-init
@@ -22,11 +19,10 @@ loop-left-smaller c = size_less 32 (search rules) (search rules) c.rest32-left.e
 
 pub loop-left-preserved : goal.loop-left-preserved
 unfolding peer_line
-loop-left-preserved c =
-    (
-      omega (arith, c.peer_line-next.auto.out, c.loop-left.invariant.0),
-      lines_more c.loop-left.invariant.1 (search rules) c.lowest32-p.ensures.0 c.rest32-left.ensures.0 c.peer_line-next.ensures.0 c.peer_line-next.ensures.1,
-    )
+loop-left-preserved c = (
+  omega (arith, c.peer_line-next.auto.out, c.loop-left.invariant.0),
+  lines_more c.loop-left.invariant.1 (search rules) c.lowest32-p.ensures.0 c.rest32-left.ensures.0 c.peer_line-next.ensures.0 c.peer_line-next.ensures.1,
+)
 
 pub returns : goal.returns
 unfolding peer_lines

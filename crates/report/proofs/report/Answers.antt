@@ -1,6 +1,4 @@
 -- `report::report` meets its contract. Assumes nothing.
-use borrow.Author.Rules.{rules}
-use borrow.Author.Tests.{not-true, not-false}
 use Rattle.report.proofs.ReportLaws.{reported_none, reported_first, reported_all}
 use Rattle.report.proofs.report.Goals as goal
 

@@ -18,7 +18,6 @@ use Rattle.network.specs.Network.{Rows, peer, present, publishes, pending, saw, 
 use Rattle.network.specs.Sound.{Sound}
 use Rattle.network.specs.laws.SoundLaws.{knows_present}
 use Rattle.events.specs.declared.Joining.{Joining}
-use Rattle.events.specs.declared.Event.TheVariants as kind
 use Rattle.floodnet.specs.Produce.{holders, is_new}
 use Rattle.floodnet.specs.Forward.{receivers, forwarded}
 use Rattle.floodnet.specs.Topics.{subscribed_to, unsubscribed_from}

@@ -1,5 +1,4 @@
 -- `engine::alone::forward_saved` meets its contract. Assumes nothing.
-use borrow.Author.Rules.{rules}
 use native.Mathlib.Omega.{arith}
 use Rattle.engine.specs.laws.ForwardAlone.{forward_peer, forward_message, forward_refused, forward_done}
 use Rattle.engine.proofs.Lent.{saved}

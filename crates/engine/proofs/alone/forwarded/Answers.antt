@@ -1,5 +1,4 @@
 -- `engine::alone::forwarded` meets its contract. Assumes nothing.
-use borrow.Author.Rules.{rules}
 use Rattle.engine.proofs.alone.forwarded.Goals as goal
 
 pub returns : goal.returns

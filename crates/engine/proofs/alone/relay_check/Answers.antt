@@ -1,5 +1,4 @@
 -- `engine::alone::relay_check` meets its contract. Assumes nothing.
-use borrow.Author.Rules.{rules}
 use mathlib.Core.Path.{◌∙◌}
 use Rattle.engine.proofs.AloneLaws.{check_is}
 use Rattle.engine.proofs.Lent.{looked_is}

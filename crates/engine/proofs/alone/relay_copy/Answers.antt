@@ -1,5 +1,4 @@
 -- `engine::alone::relay_copy` meets its contract. Assumes nothing.
-use borrow.Author.Rules.{rules}
 use Rattle.engine.proofs.AloneLaws.{copy_refused, copy_short, copy_done, answered_as}
 use Rattle.engine.proofs.Lent.{looked_is, looked_net}
 use Rattle.engine.proofs.alone.relay_copy.Goals as goal

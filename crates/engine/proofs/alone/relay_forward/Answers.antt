@@ -1,5 +1,4 @@
 -- `engine::alone::relay_forward` meets its contract. Assumes nothing.
-use borrow.Author.Rules.{rules}
 use mathlib.Core.List.{[]}
 use Rattle.network.specs.Network.{mk}
 use Rattle.engine.specs.laws.ForwardAlone.{forward_begun, forward_read}

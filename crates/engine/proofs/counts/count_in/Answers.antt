@@ -1,5 +1,4 @@
 -- `engine::counts::count_in` meets its contract. Assumes nothing.
-use borrow.Author.Rules.{rules}
 use mathlib.Core.Path.{sym, ap, subst, ◌∙◌}
 use Rattle.engine.specs.Run.{Room, tallied_of}
 use Rattle.engine.proofs.counts.count_in.Goals as goal

@@ -1,5 +1,4 @@
 -- `engine::draining::relay_drain` meets its contract. Assumes nothing.
-use borrow.Author.Rules.{rules}
 use Rattle.engine.specs.laws.DrainingLaws.{drain_refused, drain_done}
 use Rattle.engine.proofs.Lent.{started, started_rows, started_long, started_bytes, saved}
 use Rattle.engine.proofs.draining.relay_drain.Goals as goal

@@ -1,5 +1,4 @@
 -- `engine::imaging::relay_image` meets its contract. Assumes nothing.
-use borrow.Author.Rules.{rules}
 use Rattle.broadcastnet.proofs.laws.CommitLaws.{image_net_made}
 use Rattle.engine.proofs.AloneLaws.{answered_as}
 use Rattle.engine.proofs.ImagingLaws.{image_refused, image_short, image_done}

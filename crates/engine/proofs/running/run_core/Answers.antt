@@ -1,5 +1,4 @@
 -- `engine::running::run_core` meets its contract. Assumes nothing.
-use borrow.Author.Rules.{rules}
 use Rattle.engine.proofs.RunEnds.{ends_refused, ends_run}
 use Rattle.engine.proofs.Lent.{started, started_rows, started_long}
 use Rattle.engine.proofs.running.run_core.Goals as goal

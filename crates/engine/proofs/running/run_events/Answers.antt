@@ -1,5 +1,4 @@
 -- `engine::running::run_events` meets its contract. Assumes nothing.
-use borrow.Author.Rules.{rules}
 use Rattle.engine.proofs.running.run_events.Goals as goal
 
 pub returns : goal.returns

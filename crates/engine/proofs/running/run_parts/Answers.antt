@@ -1,17 +1,12 @@
 -- `engine::running::run_parts` meets its contract. The loop keeps `Going`: the rest of the run, from here, ends as the whole does. Assumes nothing.
 use borrow.Author.Rules.{rules}
-use Prim.Native.Nat.{◌-◌, ◌*◌, ◌/◌, ◌^◌, ◌≤◌, ◌<◌}
-use lib.ListN.{length}
 use native.Mathlib.Omega.{arith}
-use Rattle.sets.specs.Set.{size}
 use Rattle.sets.proofs.laws.Sizes.{size_le}
-use Rattle.network.specs.declared.Network.{Network}
-use Rattle.network.specs.Network.{with_all, table}
 use Rattle.network.specs.laws.Network.{bare}
 use Rattle.events.specs.laws.ReadingLaws.{read_is}
-use Rattle.engine.specs.Run.{tally, zero_tally, run_from, run_all}
+use Rattle.engine.specs.Run.{run_all}
 use Rattle.engine.specs.laws.RunSound.{reads_fit}
-use Rattle.engine.proofs.RunLoop.{Going, going_start, going_room}
+use Rattle.engine.proofs.RunLoop.{going_start, going_room}
 use Rattle.engine.proofs.RunEnds.{runs_as}
 use Rattle.engine.proofs.RunTurns.{ran_stop, ran_on, ran_end}
 use Rattle.engine.proofs.running.run_parts.Goals as goal

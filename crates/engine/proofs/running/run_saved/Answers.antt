@@ -1,5 +1,4 @@
 -- `engine::running::run_saved` meets its contract. Assumes nothing.
-use borrow.Author.Rules.{rules}
 use Rattle.network.specs.laws.Network.{bare}
 use Rattle.engine.proofs.RunEnds.{ends_written}
 use Rattle.engine.proofs.running.run_saved.Goals as goal

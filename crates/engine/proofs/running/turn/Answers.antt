@@ -1,17 +1,6 @@
 -- `engine::running::turn` meets its contract. Assumes nothing.
-use borrow.Author.Rules.{rules}
-use mathlib.Core.List.{[], ◌∷◌}
-use mathlib.Core.Logic.{◌⊎◌, inl, inr}
-use mathlib.Core.Path.{◌≡◌, ap, subst, ◌∙◌}
-use Prim.Native.Nat.{ℕ}
-use native.Mathlib.Omega.{arith}
-use types.Run.{OneOf}
-use denote.Enum.Declared.{tag_of}
-use Rattle.events.specs.declared.Event.{Event}
-use Rattle.events.specs.declared.Read.{Read}
-use Rattle.events.specs.declared.Read.TheVariants.{Taken}
+use mathlib.Core.Path.{ap, ◌∙◌}
 use Rattle.events.specs.declared.Reading.{Reading}
-use Rattle.events.specs.contracts.Read as R
 use Rattle.engine.specs.Run.{refused_by}
 use Rattle.engine.proofs.TurnLaws.{taken_fits, turn_taken, turn_none}
 use Rattle.engine.proofs.running.turn.Goals as goal

@@ -1,5 +1,4 @@
 -- `engine::start::begin` meets its contract. Assumes nothing.
-use borrow.Author.Rules.{rules}
 use mathlib.Core.Path.{◌∙◌}
 use Rattle.engine.proofs.Lent.{started, started_refused}
 use Rattle.engine.proofs.start.begin.Goals as goal

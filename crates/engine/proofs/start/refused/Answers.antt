@@ -1,5 +1,4 @@
 -- `engine::start::refused` meets its contract. Assumes nothing.
-use borrow.Author.Rules.{rules}
 use Rattle.network.specs.Rows.{blank_table}
 use Rattle.engine.proofs.start.refused.Goals as goal
 

@@ -1,5 +1,4 @@
 -- `engine::start::start` meets its contract. Assumes nothing.
-use borrow.Author.Rules.{rules}
 use mathlib.Core.Path.{refl}
 use Rattle.sets.proofs.laws.Bools.{ne_eqb}
 use Rattle.engine.specs.laws.StartLaws.{begin_1, begin_2, begin_3, begin_4}

@@ -1,7 +1,6 @@
 -- `events::judge::join_ok` meets its contract. Assumes nothing.
 use Rattle.events.specs.Event.{join_ok}
 use borrow.Author.Tests.{le-ltb, lt-ltb}
-use borrow.Author.Rules.{rules}
 use Rattle.events.proofs.judge.join_ok.Goals as goal
 
 pub returns-then-f-ge32 : goal.returns-then-f-ge32

@@ -1,7 +1,6 @@
 -- `events::judge::no_sets` meets its contract. Assumes nothing.
 use Rattle.events.specs.Event.{no_sets}
 use borrow.Author.Tests.{eq-eqb, ne_eqb}
-use borrow.Author.Rules.{rules}
 use Rattle.events.proofs.judge.no_sets.Goals as goal
 
 pub returns-then-f-ne0 : goal.returns-then-f-ne0

@@ -1,7 +1,6 @@
 -- `events::judge::pair_ok` meets its contract. Assumes nothing.
 use Rattle.events.specs.Event.{pair_ok}
 use borrow.Author.Tests.{le-ltb, lt-ltb, eq-eqb, ne_eqb}
-use borrow.Author.Rules.{rules}
 use Rattle.events.proofs.judge.pair_ok.Goals as goal
 
 pub returns-then-f-ge32 : goal.returns-then-f-ge32

@@ -2,7 +2,6 @@
 use mathlib.Core.Path.{sym, ◌∙◌}
 use Rattle.events.specs.Event.{skip_ok}
 use borrow.Author.Tests.{eq-eqb, ne_eqb}
-use borrow.Author.Rules.{rules}
 use Rattle.events.proofs.judge.skip_ok.Goals as goal
 
 pub returns-then-f-ne0 : goal.returns-then-f-ne0

@@ -2,7 +2,6 @@
 use mathlib.Core.Path.{sym, ◌∙◌}
 use Rattle.events.specs.Event.{topics_ok}
 use borrow.Author.Tests.{le-ltb, lt-ltb}
-use borrow.Author.Rules.{rules}
 use Rattle.events.proofs.judge.topics_ok.Goals as goal
 
 pub returns-then-f-ge32 : goal.returns-then-f-ge32

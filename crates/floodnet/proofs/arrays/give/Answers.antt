@@ -1,10 +1,9 @@
 -- `floodnet::arrays::give` meets its contract. Assumes nothing.
 use borrow.Author.Rules.{rules}
-use Prim.Native.Nat.{◌<◌}
-use Rattle.sets.specs.Set.{only, puts, size}
+use Rattle.sets.specs.Set.{puts}
 use Rattle.sets.proofs.laws.Lowest.{least_narrow}
 use Rattle.sets.proofs.laws.Sizes.{size_less}
-use Rattle.lists.specs.laws.Visit.{Visiting, visiting_none, visiting_wide, visiting_done}
+use Rattle.lists.specs.laws.Visit.{visiting_none, visiting_wide, visiting_done}
 use Rattle.floodnet.proofs.arrays.give.Goals as goal
 
 pub loop-left-init : goal.loop-left-init

@@ -1,10 +1,6 @@
 -- The invariants of `floodnet::arrays::give`. Assumes nothing.
-use borrow.Author.Rules.{rules}
-use Prim.Native.Nat.{◌<◌}
 use Rattle.sets.specs.Set.{only, puts, size}
-use Rattle.sets.proofs.laws.Lowest.{least_narrow}
-use Rattle.sets.proofs.laws.Sizes.{size_less}
-use Rattle.lists.specs.laws.Visit.{Visiting, visiting_none, visiting_wide, visiting_done}
+use Rattle.lists.specs.laws.Visit.{Visiting}
 use Rattle.floodnet.proofs.arrays.give.Given as goal
 
 abbrev pub invariant-loop-left : goal.invariant-loop-left

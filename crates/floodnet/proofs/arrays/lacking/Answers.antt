@@ -1,11 +1,9 @@
 -- `floodnet::arrays::lacking` meets its contract. Assumes nothing.
 use borrow.Author.Rules.{rules}
-use Prim.Native.Nat.{◌<◌}
-use Rattle.sets.specs.Set.{size}
 use Rattle.sets.proofs.laws.Lowest.{least_narrow}
 use Rattle.sets.proofs.laws.Sizes.{size_less}
-use Rattle.sets.proofs.laws.Visits.{Visit, visit_none, visit_lt}
-use Rattle.floodnet.proofs.CodeArrays.{lacks, lacking_more, lacking_done}
+use Rattle.sets.proofs.laws.Visits.{visit_none, visit_lt}
+use Rattle.floodnet.proofs.CodeArrays.{lacking_more, lacking_done}
 use Rattle.floodnet.proofs.arrays.lacking.Goals as goal
 
 pub loop-left-init : goal.loop-left-init

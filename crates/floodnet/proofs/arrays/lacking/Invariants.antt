@@ -1,11 +1,7 @@
 -- The invariants of `floodnet::arrays::lacking`. Assumes nothing.
-use borrow.Author.Rules.{rules}
-use Prim.Native.Nat.{◌<◌}
 use Rattle.sets.specs.Set.{size}
-use Rattle.sets.proofs.laws.Lowest.{least_narrow}
-use Rattle.sets.proofs.laws.Sizes.{size_less}
-use Rattle.sets.proofs.laws.Visits.{Visit, visit_none, visit_lt}
-use Rattle.floodnet.proofs.CodeArrays.{lacks, lacking_more, lacking_done}
+use Rattle.sets.proofs.laws.Visits.{Visit}
+use Rattle.floodnet.proofs.CodeArrays.{lacks}
 use Rattle.floodnet.proofs.arrays.lacking.Given as goal
 
 abbrev pub invariant-loop-left : goal.invariant-loop-left

@@ -1,9 +1,9 @@
 -- `floodnet::arrays::mark` meets its contract. Assumes nothing.
 use borrow.Author.Rules.{rules}
 use mathlib.Core.Path.{◌∙◌}
-use Rattle.sets.specs.Set.{only, puts, size}
+use Rattle.sets.specs.Set.{puts}
 use Rattle.sets.proofs.laws.Sizes.{size_less}
-use Rattle.lists.specs.laws.Visit.{Visiting, visiting_none, visiting_more, visiting_done, visits_edit}
+use Rattle.lists.specs.laws.Visit.{visiting_none, visiting_more, visiting_done, visits_edit}
 use Rattle.floodnet.proofs.arrays.mark.Goals as goal
 
 pub loop-left-init : goal.loop-left-init

@@ -1,9 +1,9 @@
 -- `floodnet::arrays::unmark` meets its contract. Assumes nothing.
 use borrow.Author.Rules.{rules}
 use mathlib.Core.Path.{◌∙◌}
-use Rattle.sets.specs.Set.{only, strikes, size}
+use Rattle.sets.specs.Set.{strikes}
 use Rattle.sets.proofs.laws.Sizes.{size_less}
-use Rattle.lists.specs.laws.Visit.{Visiting, visiting_none, visiting_more, visiting_done, visits_edit}
+use Rattle.lists.specs.laws.Visit.{visiting_none, visiting_more, visiting_done, visits_edit}
 use Rattle.floodnet.proofs.arrays.unmark.Goals as goal
 
 pub loop-left-init : goal.loop-left-init

@@ -1,5 +1,4 @@
 -- `floodnet::links::clear` meets its contract. Assumes nothing.
-use borrow.Author.Rules.{rules}
 use Rattle.floodnet.specs.Links.{cleared}
 use Rattle.floodnet.proofs.links.clear.Goals as goal
 

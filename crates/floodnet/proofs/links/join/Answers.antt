@@ -1,5 +1,4 @@
 -- `floodnet::links::join` meets its contract. Assumes nothing.
-use borrow.Author.Rules.{rules}
 use mathlib.Core.List.{[]}
 use Rattle.network.specs.Network.{with_all}
 use Rattle.floodnet.proofs.CodeLinks.{joined_law}

@@ -1,5 +1,4 @@
 -- `floodnet::links::link_down` meets its contract. Assumes nothing.
-use borrow.Author.Rules.{rules}
 use Rattle.floodnet.proofs.CodeLinks.{link_down_law}
 use Rattle.floodnet.proofs.links.link_down.Goals as goal
 

@@ -1,5 +1,4 @@
 -- `floodnet::links::link_up` meets its contract. Assumes nothing.
-use borrow.Author.Rules.{rules}
 use Rattle.floodnet.proofs.CodeLinks.{link_up_law}
 use Rattle.floodnet.proofs.links.link_up.Goals as goal
 

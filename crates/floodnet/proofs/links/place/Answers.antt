@@ -1,5 +1,4 @@
 -- `floodnet::links::place` meets its contract. Assumes nothing.
-use borrow.Author.Rules.{rules}
 use Rattle.floodnet.specs.Links.{placed}
 use Rattle.floodnet.proofs.links.place.Goals as goal
 

@@ -1,5 +1,4 @@
 -- `floodnet::links::subscribe` meets its contract. Assumes nothing.
-use borrow.Author.Rules.{rules}
 use Rattle.floodnet.specs.Topics.{subscribed_to}
 use Rattle.floodnet.proofs.links.subscribe.Goals as goal
 

@@ -1,5 +1,4 @@
 -- `floodnet::links::unsubscribe` meets its contract. Assumes nothing.
-use borrow.Author.Rules.{rules}
 use Rattle.floodnet.specs.Topics.{unsubscribed_from}
 use Rattle.floodnet.proofs.links.unsubscribe.Goals as goal
 

@@ -1,5 +1,4 @@
 -- `floodnet::messages::produce` meets its contract. Assumes nothing.
-use borrow.Author.Rules.{rules}
 use Rattle.floodnet.specs.Produce.{produced}
 use Rattle.floodnet.proofs.messages.produce.Goals as goal
 

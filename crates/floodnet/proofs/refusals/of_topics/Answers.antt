@@ -1,5 +1,4 @@
 -- `floodnet::refusals::of_topics` meets its contract. Assumes nothing.
-use borrow.Author.Rules.{rules}
 use mathlib.Core.Path.{refl}
 use Rattle.floodnet.specs.Refusals.{refusal_topics}
 use Rattle.floodnet.proofs.CodeRefusals.{need_fails, need_holds, test_fails, test_holds}

@@ -1,10 +1,9 @@
 -- `floodnet::rows::drop_all` meets its contract. Assumes nothing.
 use borrow.Author.Rules.{rules}
 use mathlib.Core.Path.{◌∙◌}
-use Rattle.sets.specs.Set.{strikes}
 use Rattle.floodnet.proofs.CodeVisit.{along_done}
-use Rattle.floodnet.proofs.CodeChoices.{Picking, picking_none}
-use Rattle.floodnet.proofs.CodeWalks.{rows, rows_none, rows_dropped, dropping_row}
+use Rattle.floodnet.proofs.CodeChoices.{picking_none}
+use Rattle.floodnet.proofs.CodeWalks.{rows_none, rows_dropped, dropping_row}
 use Rattle.floodnet.proofs.rows.drop_all.Goals as goal
 
 pub loop-left-init : goal.loop-left-init

@@ -1,10 +1,7 @@
 -- The invariants of `floodnet::rows::drop_all`. Assumes nothing.
-use borrow.Author.Rules.{rules}
-use mathlib.Core.Path.{◌∙◌}
 use Rattle.sets.specs.Set.{strikes}
-use Rattle.floodnet.proofs.CodeVisit.{along_done}
-use Rattle.floodnet.proofs.CodeChoices.{Picking, picking_none}
-use Rattle.floodnet.proofs.CodeWalks.{rows, rows_none, rows_dropped, dropping_row}
+use Rattle.floodnet.proofs.CodeChoices.{Picking}
+use Rattle.floodnet.proofs.CodeWalks.{rows}
 use Rattle.floodnet.proofs.rows.drop_all.Given as goal
 
 abbrev pub invariant-loop-left : goal.invariant-loop-left

@@ -1,7 +1,6 @@
 -- `floodnet::rows::learn` meets its contract. Assumes nothing.
 use borrow.Author.Rules.{rules}
-use Rattle.floodnet.proofs.CodeVisit.{Along, along_none, along_done}
-use Rattle.floodnet.specs.Lent.{learnt}
+use Rattle.floodnet.proofs.CodeVisit.{along_none, along_done}
 use Rattle.floodnet.proofs.CodeWalks.{learnt_none, learning}
 use Rattle.floodnet.proofs.rows.learn.Goals as goal
 

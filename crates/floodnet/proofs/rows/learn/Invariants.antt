@@ -1,8 +1,6 @@
 -- The invariants of `floodnet::rows::learn`. Assumes nothing.
-use borrow.Author.Rules.{rules}
-use Rattle.floodnet.proofs.CodeVisit.{Along, along_none, along_done}
+use Rattle.floodnet.proofs.CodeVisit.{Along}
 use Rattle.floodnet.specs.Lent.{learnt}
-use Rattle.floodnet.proofs.CodeWalks.{learnt_none, learning}
 use Rattle.floodnet.proofs.rows.learn.Given as goal
 
 abbrev pub invariant-loop-left : goal.invariant-loop-left

@@ -1,10 +1,9 @@
 -- `floodnet::rows::note_all` meets its contract. Assumes nothing.
 use borrow.Author.Rules.{rules}
 use mathlib.Core.Path.{sym, ◌∙◌}
-use Rattle.sets.specs.Set.{only, puts}
 use Rattle.floodnet.proofs.CodeVisit.{along_done}
-use Rattle.floodnet.proofs.CodeChoices.{puts_twice, Picking, picking_none}
-use Rattle.floodnet.proofs.CodeArrays.{inside, inside_no_peer, inside_noted}
+use Rattle.floodnet.proofs.CodeChoices.{puts_twice, picking_none}
+use Rattle.floodnet.proofs.CodeArrays.{inside_no_peer, inside_noted}
 use Rattle.floodnet.proofs.CodeWalks.{noting_row}
 use Rattle.floodnet.proofs.rows.note_all.Goals as goal
 

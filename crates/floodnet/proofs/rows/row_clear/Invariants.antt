@@ -1,12 +1,10 @@
 -- The invariants of `floodnet::rows::row_clear`. Assumes nothing.
-use borrow.Author.Rules.{rules}
-use mathlib.Core.Path.{◌≡◌, refl}
+use mathlib.Core.Path.{◌≡◌}
 use Prim.Native.Nat.{◌≤◌, ◌-◌}
-use native.Mathlib.Omega.{arith}
 use Rattle.sets.specs.Set.{empties}
 use Rattle.lists.specs.Edit.{edit}
 use Rattle.floodnet.proofs.CodeChoices.{picks}
-use Rattle.floodnet.proofs.CodeRows.{front, row_none, row_more, row_all}
+use Rattle.floodnet.proofs.CodeRows.{front}
 use Rattle.floodnet.proofs.rows.row_clear.Given as goal
 
 abbrev pub invariant-loop-t : goal.invariant-loop-t

@@ -1,12 +1,8 @@
 -- `floodnet::rows::row_minus` meets its contract. Assumes nothing.
 use borrow.Author.Rules.{rules}
-use mathlib.Core.Path.{◌≡◌}
-use Prim.Native.Nat.{◌≤◌, ◌-◌}
 use native.Mathlib.Omega.{arith}
 use Rattle.sets.specs.Set.{strikes}
-use Rattle.lists.specs.Edit.{edit}
-use Rattle.floodnet.proofs.CodeChoices.{picks}
-use Rattle.floodnet.proofs.CodeRows.{front, row_none, row_more, row_all}
+use Rattle.floodnet.proofs.CodeRows.{row_none, row_more, row_all}
 use Rattle.floodnet.proofs.rows.row_minus.Goals as goal
 
 pub loop-t-init : goal.loop-t-init

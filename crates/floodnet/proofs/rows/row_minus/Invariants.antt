@@ -1,12 +1,10 @@
 -- The invariants of `floodnet::rows::row_minus`. Assumes nothing.
-use borrow.Author.Rules.{rules}
 use mathlib.Core.Path.{◌≡◌}
 use Prim.Native.Nat.{◌≤◌, ◌-◌}
-use native.Mathlib.Omega.{arith}
 use Rattle.sets.specs.Set.{strikes}
 use Rattle.lists.specs.Edit.{edit}
 use Rattle.floodnet.proofs.CodeChoices.{picks}
-use Rattle.floodnet.proofs.CodeRows.{front, row_none, row_more, row_all}
+use Rattle.floodnet.proofs.CodeRows.{front}
 use Rattle.floodnet.proofs.rows.row_minus.Given as goal
 
 abbrev pub invariant-loop-t : goal.invariant-loop-t

@@ -1,10 +1,10 @@
 -- `floodnet::rows::row_note` meets its contract. Assumes nothing.
 use borrow.Author.Rules.{rules}
 use mathlib.Core.Path.{◌∙◌}
-use Rattle.sets.specs.Set.{only, puts}
+use Rattle.sets.specs.Set.{puts}
 use Rattle.floodnet.proofs.CodeVisit.{along_done}
-use Rattle.floodnet.proofs.CodeChoices.{Picking, picking_none}
-use Rattle.floodnet.proofs.CodeArrays.{inside, inside_no_topic, inside_noted, noting}
+use Rattle.floodnet.proofs.CodeChoices.{picking_none}
+use Rattle.floodnet.proofs.CodeArrays.{inside_no_topic, inside_noted, noting}
 use Rattle.floodnet.proofs.rows.row_note.Goals as goal
 
 pub loop-left-init : goal.loop-left-init

@@ -1,10 +1,10 @@
 -- `floodnet::rows::row_strike` meets its contract. Assumes nothing.
 use borrow.Author.Rules.{rules}
 use mathlib.Core.Path.{◌∙◌}
-use Rattle.sets.specs.Set.{only, strikes}
+use Rattle.sets.specs.Set.{strikes}
 use Rattle.floodnet.proofs.CodeVisit.{along_done}
-use Rattle.floodnet.proofs.CodeChoices.{Picking, picking_none}
-use Rattle.floodnet.proofs.CodeArrays.{inside, inside_no_topic, inside_struck, noting}
+use Rattle.floodnet.proofs.CodeChoices.{picking_none}
+use Rattle.floodnet.proofs.CodeArrays.{inside_no_topic, inside_struck, noting}
 use Rattle.floodnet.proofs.rows.row_strike.Goals as goal
 
 pub loop-left-init : goal.loop-left-init

@@ -1,10 +1,7 @@
 -- The invariants of `floodnet::rows::row_strike`. Assumes nothing.
-use borrow.Author.Rules.{rules}
-use mathlib.Core.Path.{◌∙◌}
 use Rattle.sets.specs.Set.{only, strikes}
-use Rattle.floodnet.proofs.CodeVisit.{along_done}
-use Rattle.floodnet.proofs.CodeChoices.{Picking, picking_none}
-use Rattle.floodnet.proofs.CodeArrays.{inside, inside_no_topic, inside_struck, noting}
+use Rattle.floodnet.proofs.CodeChoices.{Picking}
+use Rattle.floodnet.proofs.CodeArrays.{inside}
 use Rattle.floodnet.proofs.rows.row_strike.Given as goal
 
 abbrev pub invariant-loop-left : goal.invariant-loop-left

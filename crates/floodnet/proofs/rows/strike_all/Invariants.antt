@@ -1,11 +1,7 @@
 -- The invariants of `floodnet::rows::strike_all`. Assumes nothing.
-use borrow.Author.Rules.{rules}
-use mathlib.Core.Path.{sym, ◌∙◌}
 use Rattle.sets.specs.Set.{only, strikes}
-use Rattle.floodnet.proofs.CodeVisit.{along_done}
-use Rattle.floodnet.proofs.CodeChoices.{strikes_twice, Picking, picking_none}
-use Rattle.floodnet.proofs.CodeArrays.{inside, inside_no_peer, inside_struck}
-use Rattle.floodnet.proofs.CodeWalks.{noting_row}
+use Rattle.floodnet.proofs.CodeChoices.{Picking}
+use Rattle.floodnet.proofs.CodeArrays.{inside}
 use Rattle.floodnet.proofs.rows.strike_all.Given as goal
 
 abbrev pub invariant-loop-left : goal.invariant-loop-left

@@ -1,5 +1,4 @@
 -- `floodnet::turns::forward` meets its contract. Assumes nothing.
-use borrow.Author.Rules.{rules}
 use mathlib.Core.List.{[]}
 use Rattle.network.specs.Network.{with_present}
 use Rattle.floodnet.specs.Lent.{with_messages}

@@ -1,5 +1,4 @@
 -- `floodnet::turns::join` meets its contract. Assumes nothing.
-use borrow.Author.Rules.{rules}
 use mathlib.Core.Path.{refl}
 use Rattle.network.specs.Network.{with_all}
 use Rattle.events.specs.Kind.{kind_of}

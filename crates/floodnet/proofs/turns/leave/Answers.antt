@@ -1,5 +1,4 @@
 -- `floodnet::turns::leave` meets its contract. Assumes nothing.
-use borrow.Author.Rules.{rules}
 use mathlib.Core.Path.{refl}
 use mathlib.Core.List.{[]}
 use Rattle.network.specs.Network.{with_all}

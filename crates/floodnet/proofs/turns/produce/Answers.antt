@@ -1,5 +1,4 @@
 -- `floodnet::turns::produce` meets its contract. Assumes nothing.
-use borrow.Author.Rules.{rules}
 use mathlib.Core.Path.{refl}
 use Rattle.network.specs.Network.{with_present, with_pubs, with_seen}
 use Rattle.events.specs.Kind.{kind_of}

@@ -1,5 +1,4 @@
 -- `floodnet::turns::subscribe` meets its contract. Assumes nothing.
-use borrow.Author.Rules.{rules}
 use mathlib.Core.Path.{refl}
 use Rattle.network.specs.Network.{with_present}
 use Rattle.floodnet.specs.Lent.{with_links}

@@ -1,11 +1,8 @@
 -- `network::load::fill_known` meets its contract. Assumes nothing.
 use borrow.Author.Rules.{rules}
 use mathlib.Core.Path.{◌≡◌}
-use Prim.Native.Nat.{◌-◌, ◌*◌, ◌≤◌}
 use native.Mathlib.Omega.{arith}
-use Rattle.lists.specs.Tab.{Filled}
 use Rattle.lists.specs.laws.Tab.{filled_none, filled_all}
-use Rattle.network.specs.State.{known_in}
 use Rattle.network.specs.laws.Layout.{row_read}
 use Rattle.network.proofs.load.fill_known.Goals as goal
 

@@ -1,12 +1,7 @@
 -- The invariants of `network::load::fill_known`. Assumes nothing.
-use borrow.Author.Rules.{rules}
-use mathlib.Core.Path.{◌≡◌}
 use Prim.Native.Nat.{◌-◌, ◌*◌, ◌≤◌}
-use native.Mathlib.Omega.{arith}
 use Rattle.lists.specs.Tab.{Filled}
-use Rattle.lists.specs.laws.Tab.{filled_none, filled_all}
 use Rattle.network.specs.State.{known_in}
-use Rattle.network.specs.laws.Layout.{row_read}
 use Rattle.network.proofs.load.fill_known.Given as goal
 
 abbrev pub invariant-loop-p : goal.invariant-loop-p

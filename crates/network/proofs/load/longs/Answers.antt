@@ -1,12 +1,11 @@
 -- `network::load::longs` meets its contract. Assumes nothing.
 use borrow.Author.Rules.{rules}
 use mathlib.Core.Path.{◌≡◌}
-use Prim.Native.Nat.{ℕ, ◌-◌, ◌≤◌}
+use Prim.Native.Nat.{ℕ}
 use native.Mathlib.Omega.{arith}
 use lib.ListN.{length-replicate}
-use Rattle.lists.specs.Tab.{Filled}
 use Rattle.lists.specs.laws.Tab.{filled_none, filled_more, filled_all}
-use Rattle.network.specs.State.{long_in, long}
+use Rattle.network.specs.State.{long}
 use Rattle.network.proofs.load.longs.Goals as goal
 
 pub loop-p-init : goal.loop-p-init

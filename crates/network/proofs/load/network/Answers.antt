@@ -1,5 +1,4 @@
 -- `network::load::network` meets its contract. Assumes nothing.
-use borrow.Author.Rules.{rules}
 use Rattle.network.specs.laws.Opening.{net_is}
 use Rattle.network.proofs.load.network.Goals as goal
 

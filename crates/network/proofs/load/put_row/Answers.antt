@@ -1,10 +1,8 @@
 -- `network::load::put_row` meets its contract. Assumes nothing.
 use borrow.Author.Rules.{rules}
 use mathlib.Core.Path.{◌≡◌}
-use Prim.Native.Nat.{◌-◌, ◌≤◌}
 use native.Mathlib.Omega.{arith}
-use lib.ListN.{length, length-set}
-use Rattle.network.specs.Layout.{RowStored}
+use lib.ListN.{length-set}
 use Rattle.network.specs.laws.Layout.{stored_none, stored_more}
 use Rattle.network.proofs.load.put_row.Goals as goal
 

@@ -1,11 +1,8 @@
 -- The invariants of `network::load::put_row`. Assumes nothing.
-use borrow.Author.Rules.{rules}
 use mathlib.Core.Path.{◌≡◌}
 use Prim.Native.Nat.{◌-◌, ◌≤◌}
-use native.Mathlib.Omega.{arith}
-use lib.ListN.{length, length-set}
+use lib.ListN.{length}
 use Rattle.network.specs.Layout.{RowStored}
-use Rattle.network.specs.laws.Layout.{stored_none, stored_more}
 use Rattle.network.proofs.load.put_row.Given as goal
 
 abbrev pub invariant-loop-t : goal.invariant-loop-t

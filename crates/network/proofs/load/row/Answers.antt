@@ -1,12 +1,11 @@
 -- `network::load::row` meets its contract. Assumes nothing.
 use borrow.Author.Rules.{rules}
 use mathlib.Core.Path.{◌≡◌}
-use Prim.Native.Nat.{ℕ, ◌+◌, ◌-◌, ◌≤◌}
+use Prim.Native.Nat.{ℕ}
 use native.Mathlib.Omega.{arith}
 use lib.ListN.{length-replicate}
-use Rattle.lists.specs.Tab.{Filled}
 use Rattle.lists.specs.laws.Tab.{filled_none, filled_more, filled_all}
-use Rattle.network.specs.State.{word_in, word}
+use Rattle.network.specs.State.{word}
 use Rattle.network.proofs.load.row.Goals as goal
 
 pub loop-t-init : goal.loop-t-init

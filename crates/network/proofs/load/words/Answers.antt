@@ -1,12 +1,11 @@
 -- `network::load::words` meets its contract. Assumes nothing.
 use borrow.Author.Rules.{rules}
 use mathlib.Core.Path.{◌≡◌}
-use Prim.Native.Nat.{ℕ, ◌-◌, ◌≤◌}
+use Prim.Native.Nat.{ℕ}
 use native.Mathlib.Omega.{arith}
 use lib.ListN.{length-replicate}
-use Rattle.lists.specs.Tab.{Filled}
 use Rattle.lists.specs.laws.Tab.{filled_none, filled_more, filled_all}
-use Rattle.network.specs.State.{word_in, word}
+use Rattle.network.specs.State.{word}
 use Rattle.network.proofs.load.words.Goals as goal
 
 pub loop-p-init : goal.loop-p-init

@@ -1,12 +1,7 @@
 -- The invariants of `network::load::words`. Assumes nothing.
-use borrow.Author.Rules.{rules}
-use mathlib.Core.Path.{◌≡◌}
 use Prim.Native.Nat.{ℕ, ◌-◌, ◌≤◌}
-use native.Mathlib.Omega.{arith}
-use lib.ListN.{length-replicate}
 use Rattle.lists.specs.Tab.{Filled}
-use Rattle.lists.specs.laws.Tab.{filled_none, filled_more, filled_all}
-use Rattle.network.specs.State.{word_in, word}
+use Rattle.network.specs.State.{word_in}
 use Rattle.network.proofs.load.words.Given as goal
 
 abbrev pub invariant-loop-p : goal.invariant-loop-p

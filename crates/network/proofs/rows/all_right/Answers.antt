@@ -1,14 +1,8 @@
 -- `network::rows::all_right` meets its contract. Assumes nothing.
 use borrow.Author.Rules.{rules}
 use mathlib.Core.Path.{◌≡◌, sym, ◌∙◌}
-use mathlib.Core.Logic.{⊎_elim}
-use Prim.Native.Nat.{ℕ, ◌-◌, ◌≤◌}
 use native.Mathlib.Omega.{arith}
-use lib.ListN.{get_or}
-use Rattle.sets.proofs.laws.Bools.{not_yes, not_no}
-use Rattle.sets.specs.Any.{all}
 use Rattle.sets.proofs.laws.Any.{all_start}
-use Rattle.network.specs.RowWords.{word_right}
 use Rattle.network.proofs.Tests.{all_keep, all_lost}
 use Rattle.network.proofs.rows.all_right.Goals as goal
 use Rattle.network.proofs.rows.all_right.Goals.{then-not-right, else-not-right}
@@ -22,7 +16,7 @@ loop-r-preserved c =
     let e = sym c.right.ensures in (
       search rules,
       elim c.if-not-right.branch [
-        then-not-right w ↦ w.ok-is ∙ all_lost l.r _ (e ∙ w.if-not-right.true)
+        | then-not-right w ↦ w.ok-is ∙ all_lost l.r _ (e ∙ w.if-not-right.true)
         | else-not-right w ↦ w.ok-is ∙ all_keep l.r _ l.invariant.1 (e ∙ w.if-not-right.false)
       ],
     )

@@ -2,12 +2,9 @@
 use borrow.Author.Rules.{rules}
 use mathlib.Core.Path.{◌≡◌, sym, ap, ◌∙◌}
 use mathlib.Core.Bool.{not}
-use Prim.Native.Nat.{ℕ, ◌-◌, ◌≤◌}
 use native.Mathlib.Omega.{arith}
-use lib.ListN.{get_or}
-use Rattle.sets.specs.Least.{lowest_of}
 use Rattle.sets.proofs.laws.Least.{lowest_of_all, lowest_of_start, lowest_of_on, lowest_of_found}
-use Rattle.network.specs.RowWords.{word_right, bad_word}
+use Rattle.network.specs.RowWords.{bad_word}
 use Rattle.network.proofs.rows.bad.Goals as goal
 
 pub returns-then-all_right : goal.returns-then-all_right

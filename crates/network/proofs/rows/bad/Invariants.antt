@@ -1,13 +1,10 @@
 -- The invariants of `network::rows::bad`. Assumes nothing.
-use borrow.Author.Rules.{rules}
-use mathlib.Core.Path.{◌≡◌, sym, ap, ◌∙◌}
+use mathlib.Core.Path.{◌≡◌}
 use mathlib.Core.Bool.{not}
 use Prim.Native.Nat.{ℕ, ◌-◌, ◌≤◌}
-use native.Mathlib.Omega.{arith}
 use lib.ListN.{get_or}
 use Rattle.sets.specs.Least.{lowest_of}
-use Rattle.sets.proofs.laws.Least.{lowest_of_all, lowest_of_start, lowest_of_on, lowest_of_found}
-use Rattle.network.specs.RowWords.{word_right, bad_word}
+use Rattle.network.specs.RowWords.{word_right}
 use Rattle.network.proofs.rows.bad.Given as goal
 
 abbrev pub invariant-loop-r : goal.invariant-loop-r

@@ -1,10 +1,9 @@
 -- `network::rows::columns` meets its contract. Assumes nothing.
 use borrow.Author.Rules.{rules}
 use mathlib.Core.Path.{◌≡◌, refl}
-use Prim.Native.Nat.{ℕ, ◌-◌, ◌/◌, ◌%◌, ◌≤◌}
+use Prim.Native.Nat.{ℕ}
 use native.Mathlib.Omega.{arith}
-use lib.ListN.{length-replicate, get_or}
-use Rattle.lists.specs.Tab.{Filled}
+use lib.ListN.{length-replicate}
 use Rattle.lists.specs.laws.Tab.{filled_none, filled_more, filled_all}
 use Rattle.network.specs.RowWords.{words_table}
 use Rattle.network.proofs.rows.columns.Goals as goal

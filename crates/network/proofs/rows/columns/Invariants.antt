@@ -1,12 +1,7 @@
 -- The invariants of `network::rows::columns`. Assumes nothing.
-use borrow.Author.Rules.{rules}
-use mathlib.Core.Path.{◌≡◌, refl}
 use Prim.Native.Nat.{ℕ, ◌-◌, ◌/◌, ◌%◌, ◌≤◌}
-use native.Mathlib.Omega.{arith}
-use lib.ListN.{length-replicate, get_or}
+use lib.ListN.{get_or}
 use Rattle.lists.specs.Tab.{Filled}
-use Rattle.lists.specs.laws.Tab.{filled_none, filled_more, filled_all}
-use Rattle.network.specs.RowWords.{words_table}
 use Rattle.network.proofs.rows.columns.Given as goal
 
 abbrev pub invariant-loop-r : goal.invariant-loop-r

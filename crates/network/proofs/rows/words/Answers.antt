@@ -1,10 +1,9 @@
 -- `network::rows::words` meets its contract. Assumes nothing.
 use borrow.Author.Rules.{rules}
 use mathlib.Core.Path.{◌≡◌}
-use Prim.Native.Nat.{ℕ, ◌-◌, ◌≤◌}
+use Prim.Native.Nat.{ℕ}
 use native.Mathlib.Omega.{arith}
 use lib.ListN.{length-replicate}
-use Rattle.lists.specs.Tab.{Filled}
 use Rattle.lists.specs.laws.Tab.{filled_none, filled_more, filled_all}
 use Rattle.network.specs.RowWords.{row_word}
 use Rattle.network.proofs.rows.words.Goals as goal

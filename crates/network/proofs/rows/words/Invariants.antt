@@ -1,11 +1,6 @@
 -- The invariants of `network::rows::words`. Assumes nothing.
-use borrow.Author.Rules.{rules}
-use mathlib.Core.Path.{◌≡◌}
-use Prim.Native.Nat.{ℕ, ◌-◌, ◌≤◌}
-use native.Mathlib.Omega.{arith}
-use lib.ListN.{length-replicate}
+use Prim.Native.Nat.{◌-◌, ◌≤◌}
 use Rattle.lists.specs.Tab.{Filled}
-use Rattle.lists.specs.laws.Tab.{filled_none, filled_more, filled_all}
 use Rattle.network.specs.RowWords.{row_word}
 use Rattle.network.proofs.rows.words.Given as goal
 

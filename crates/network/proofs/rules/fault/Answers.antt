@@ -1,5 +1,4 @@
 -- `network::rules::fault` meets its contract. Assumes nothing.
-use borrow.Author.Rules.{rules}
 use mathlib.Core.Path.{sym, ◌∙◌}
 use native.Mathlib.Omega.{arith}
 use Rattle.network.specs.Network.{with_present, with_pubs}

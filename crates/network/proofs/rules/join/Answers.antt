@@ -1,6 +1,6 @@
 -- `network::rules::join` meets its contract. Assumes nothing.
 use borrow.Author.Rules.{rules}
-use Rattle.network.proofs.Gathering.{Joins, joins_none, joins_more, joins_all}
+use Rattle.network.proofs.Gathering.{joins_none, joins_more, joins_all}
 use native.Mathlib.Omega.{arith}
 use Rattle.network.proofs.rules.join.Goals as goal
 

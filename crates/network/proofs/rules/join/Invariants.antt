@@ -1,7 +1,5 @@
 -- The invariants of `network::rules::join`. Assumes nothing.
-use borrow.Author.Rules.{rules}
-use Rattle.network.proofs.Gathering.{Joins, joins_none, joins_more, joins_all}
-use native.Mathlib.Omega.{arith}
+use Rattle.network.proofs.Gathering.{Joins}
 use Rattle.network.proofs.rules.join.Given as goal
 
 abbrev pub invariant-loop-left : goal.invariant-loop-left

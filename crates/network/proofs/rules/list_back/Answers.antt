@@ -1,12 +1,9 @@
 -- `network::rules::list_back` meets its contract. Assumes nothing.
 use borrow.Author.Rules.{rules}
-use mathlib.Core.Path.{◌≡◌, sym, ◌∙◌}
-use Prim.Native.Nat.{◌<◌}
+use mathlib.Core.Path.{sym, ◌∙◌}
 use native.Mathlib.Omega.{arith}
-use Rattle.sets.specs.Set.{lowest}
-use Rattle.sets.proofs.laws.Bools.{not_yes, not_no}
 use Rattle.sets.proofs.laws.Lowest.{least_narrow, rest_narrow}
-use Rattle.network.proofs.ListingBack.{Backs, backs_none, backs_more, backs_all, backs_not}
+use Rattle.network.proofs.ListingBack.{backs_none, backs_more, backs_all, backs_not}
 use Rattle.network.proofs.rules.list_back.Goals as goal
 
 pub loop-left-init : goal.loop-left-init

@@ -1,14 +1,9 @@
 -- The invariants of `network::rules::ones`. Assumes nothing.
-use borrow.Author.Rules.{rules}
-use mathlib.Core.Path.{◌≡◌, ◌∙◌}
-use mathlib.Core.Logic.{⊎_elim}
+use mathlib.Core.Path.{◌≡◌}
 use Prim.Native.Nat.{ℕ, ◌-◌, ◌%◌, ◌≤◌}
-use native.Mathlib.Omega.{arith}
 use lib.Dec.{eqb}
 use lib.ListN.{get_or}
-use borrow.Author.Tests.{eq-eqb, ne_eqb}
 use Rattle.sets.specs.Set.{set_of}
-use Rattle.sets.proofs.laws.Build.{fill_none, fill_yes, fill_no}
 use Rattle.network.proofs.rules.ones.Given as goal
 
 abbrev pub invariant-loop-p : goal.invariant-loop-p

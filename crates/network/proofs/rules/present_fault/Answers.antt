@@ -1,5 +1,4 @@
 -- `network::rules::present_fault` meets its contract. Assumes nothing.
-use borrow.Author.Rules.{rules}
 use mathlib.Core.Path.{◌≡◌, sym, ap, ◌∙◌}
 use mathlib.Core.Bool.{Bool, true, false, not}
 use mathlib.Core.List.{List}
@@ -10,12 +9,10 @@ use Rattle.network.specs.declared.Peer.{Peer}
 use Rattle.network.specs.Network.{neighbours_of}
 use Rattle.network.specs.Tests.{subscribers_of, near_absent, list_back, same_at}
 use borrow.Author.Tests.{eq-eqb, ne_eqb}
-use Rattle.sets.proofs.laws.Bools.{not_yes, not_no}
 use Rattle.network.specs.declared.Network.{Network}
 use Rattle.network.specs.Rules.{own_right, near_at, near_right, back_at, back_right, known_right, apart_right}
 use Rattle.network.specs.laws.Faults.{fault_22, fault_23, fault_24, fault_25, fault_26, fault_none}
 use Rattle.network.proofs.Tests.{rule_kept, rule_broken, near_is, back_is, same_is}
-use borrow.Author.Rules.{rules}
 use Rattle.network.proofs.rules.present_fault.Goals as goal
 
 -- what each test that was passed says of the network that the contract speaks of

@@ -1,13 +1,8 @@
 -- `network::rules::row_empty` meets its contract. Assumes nothing.
 use borrow.Author.Rules.{rules}
 use mathlib.Core.Path.{◌≡◌, ◌∙◌}
-use mathlib.Core.Logic.{⊎_elim}
-use Prim.Native.Nat.{ℕ, ◌+◌, ◌-◌, ◌≤◌}
 use native.Mathlib.Omega.{arith}
-use lib.Dec.{eqb}
-use lib.ListN.{get_or}
 use borrow.Author.Tests.{eq-eqb, ne_eqb}
-use Rattle.sets.specs.Any.{all}
 use Rattle.sets.proofs.laws.Any.{all_start}
 use Rattle.network.specs.Tests.{row_empty}
 use Rattle.network.proofs.Tests.{all_keep, all_lost}
@@ -22,7 +17,7 @@ loop-t-preserved c =
     let l = c.loop-t in (
       search rules,
       elim c.if-known-base-ne0.branch [
-        then-known-base-ne0 w ↦ w.same-is ∙ all_lost l.t _ (ne_eqb _ _ w.if-known-base-ne0.true)
+        | then-known-base-ne0 w ↦ w.same-is ∙ all_lost l.t _ (ne_eqb _ _ w.if-known-base-ne0.true)
         | else-known-base-ne0 w ↦ w.same-is ∙ all_keep l.t _ l.invariant.1 (eq-eqb _ _ w.if-known-base-ne0.false)
       ],
     )

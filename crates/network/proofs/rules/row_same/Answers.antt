@@ -1,14 +1,8 @@
 -- `network::rules::row_same` meets its contract. Assumes nothing.
 use borrow.Author.Rules.{rules}
 use mathlib.Core.Path.{◌≡◌, sym, ◌∙◌}
-use mathlib.Core.Logic.{⊎_elim}
-use Prim.Native.Nat.{ℕ, ◌+◌, ◌-◌, ◌≤◌}
 use native.Mathlib.Omega.{arith}
-use lib.Dec.{eqb}
-use lib.ListN.{get_or}
 use borrow.Author.Tests.{eq-eqb, ne_eqb}
-use Rattle.sets.specs.Set.{meet}
-use Rattle.sets.specs.Any.{all}
 use Rattle.sets.proofs.laws.Any.{all_start}
 use Rattle.network.proofs.Tests.{all_keep, all_lost}
 use Rattle.network.proofs.rules.row_same.Goals as goal
@@ -23,7 +17,7 @@ loop-t-preserved c =
     let l = c.loop-t in (
       search rules,
       elim c.if-known-base.branch [
-        then-known-base w ↦ w.same-is ∙ all_lost l.t _ (ne_eqb _ _ (λ e. w.if-known-base.true (e ∙ sym m)))
+        | then-known-base w ↦ w.same-is ∙ all_lost l.t _ (ne_eqb _ _ (λ e. w.if-known-base.true (e ∙ sym m)))
         | else-known-base w ↦ w.same-is ∙ all_keep l.t _ l.invariant.1 (eq-eqb _ _ (w.if-known-base.false ∙ m))
       ],
     )

@@ -1,11 +1,9 @@
 -- `network::rules::subscribers` meets its contract. Assumes nothing.
 use borrow.Author.Rules.{rules}
 use mathlib.Core.Path.{◌≡◌}
-use Prim.Native.Nat.{◌-◌, ◌≤◌}
 use native.Mathlib.Omega.{arith}
-use Rattle.lists.specs.Tab.{tab}
 use Rattle.network.specs.Tests.{subscribers_of}
-use Rattle.network.proofs.Gathering.{up_to, subscribers_none, subscribers_more}
+use Rattle.network.proofs.Gathering.{subscribers_none, subscribers_more}
 use Rattle.network.proofs.rules.subscribers.Goals as goal
 
 pub loop-q-init : goal.loop-q-init

@@ -1,11 +1,8 @@
 -- The invariants of `network::rules::subscribers`. Assumes nothing.
-use borrow.Author.Rules.{rules}
 use mathlib.Core.Path.{◌≡◌}
 use Prim.Native.Nat.{◌-◌, ◌≤◌}
-use native.Mathlib.Omega.{arith}
 use Rattle.lists.specs.Tab.{tab}
-use Rattle.network.specs.Tests.{subscribers_of}
-use Rattle.network.proofs.Gathering.{up_to, subscribers_none, subscribers_more}
+use Rattle.network.proofs.Gathering.{up_to}
 use Rattle.network.proofs.rules.subscribers.Given as goal
 
 abbrev pub invariant-loop-q : goal.invariant-loop-q

@@ -1,8 +1,6 @@
 -- `network::store::head` meets its contract. Assumes nothing.
-use borrow.Author.Rules.{rules}
 use mathlib.Core.Path.{sym, ap, ◌∙◌}
 use Rattle.sets.specs.Set.{digit}
-use borrow.Author.Rules.{rules}
 use Rattle.network.proofs.store.head.Goals as goal
 
 pub returns-then-has32 : goal.returns-then-has32

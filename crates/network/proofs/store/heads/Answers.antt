@@ -5,14 +5,14 @@ use mathlib.Core.Bool.{Bool, true, false}
 use Prim.Native.Nat.{ℕ, ◌^◌, ◌<◌}
 use native.Mathlib.Omega.{arith}
 use lib.ListN.{replicate, length-replicate, get_or-replicate}
-use Rattle.sets.specs.Set.{has, when, digit, size}
+use Rattle.sets.specs.Set.{has, when, digit}
 use Rattle.sets.specs.Rising.{members}
 use Rattle.sets.proofs.laws.Sizes.{size_less}
 use Rattle.lists.specs.Tab.{tab}
 use Rattle.lists.specs.Visit.{visits}
 use Rattle.lists.specs.laws.Edit.{length_edit, get_or_edit}
 use Rattle.lists.specs.laws.Tab.{is_tab}
-use Rattle.lists.specs.laws.Visit.{Visiting, visiting_none, visiting_more, visiting_done, visits_edit}
+use Rattle.lists.specs.laws.Visit.{visiting_none, visiting_more, visiting_done, visits_edit}
 use Rattle.network.proofs.store.heads.Invariants.{one}
 use Rattle.network.proofs.store.heads.Goals as goal
 

@@ -1,12 +1,8 @@
 -- The invariants of `network::store::row`. Assumes nothing.
-use borrow.Author.Rules.{rules}
-use mathlib.Core.Path.{◌≡◌, refl, ap, ◌∙◌}
+use mathlib.Core.Path.{◌≡◌}
 use Prim.Native.Nat.{◌-◌, ◌≤◌}
-use native.Mathlib.Omega.{arith}
 use lib.ListN.{length}
-use Rattle.endian.specs.laws.Le.{length_put_le}
 use Rattle.network.specs.Storing.{put_row}
-use Rattle.network.specs.laws.Storing.{put_row_more}
 use Rattle.network.proofs.store.row.Given as goal
 
 abbrev pub invariant-loop-t : goal.invariant-loop-t

@@ -1,10 +1,9 @@
 -- `network::store::row_of` meets its contract. Assumes nothing.
 use borrow.Author.Rules.{rules}
 use mathlib.Core.Path.{◌≡◌, refl}
-use Prim.Native.Nat.{ℕ, ◌+◌, ◌-◌, ◌≤◌}
+use Prim.Native.Nat.{ℕ}
 use native.Mathlib.Omega.{arith}
-use lib.ListN.{get_or, length-replicate}
-use Rattle.lists.specs.Tab.{Filled}
+use lib.ListN.{length-replicate}
 use Rattle.lists.specs.laws.Tab.{filled_none, filled_more, filled_all}
 use Rattle.network.proofs.store.row_of.Goals as goal
 

@@ -1,11 +1,7 @@
 -- The invariants of `network::store::row_of`. Assumes nothing.
-use borrow.Author.Rules.{rules}
-use mathlib.Core.Path.{◌≡◌, refl}
 use Prim.Native.Nat.{ℕ, ◌+◌, ◌-◌, ◌≤◌}
-use native.Mathlib.Omega.{arith}
-use lib.ListN.{get_or, length-replicate}
+use lib.ListN.{get_or}
 use Rattle.lists.specs.Tab.{Filled}
-use Rattle.lists.specs.laws.Tab.{filled_none, filled_more, filled_all}
 use Rattle.network.proofs.store.row_of.Given as goal
 
 abbrev pub invariant-loop-t : goal.invariant-loop-t

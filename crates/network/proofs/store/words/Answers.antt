@@ -1,7 +1,5 @@
 -- `network::store::words` meets its contract. Assumes nothing.
-use borrow.Author.Rules.{rules}
 use Rattle.network.specs.laws.Storing.{head_chain}
-use borrow.Author.Rules.{rules}
 use Rattle.network.proofs.store.words.Goals as goal
 
 pub returns : goal.returns

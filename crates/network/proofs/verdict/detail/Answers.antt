@@ -1,5 +1,4 @@
 -- `network::verdict::detail` meets its contract. Assumes nothing.
-use borrow.Author.Rules.{rules}
 use mathlib.Core.Path.{◌∙◌}
 use mathlib.Core.List.{List}
 use Prim.Native.Nat.{ℕ}

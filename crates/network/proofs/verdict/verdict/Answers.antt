@@ -1,12 +1,7 @@
 -- `network::verdict::verdict` meets its contract. Assumes nothing.
 use borrow.Author.Rules.{rules}
-use mathlib.Core.Path.{◌≡◌}
-use Prim.Native.Nat.{ℕ, ◌-◌, ◌≤◌, ◌<◌}
 use native.Mathlib.Omega.{arith}
-use lib.ListN.{get_or}
-use Rattle.network.specs.declared.Network.{Network}
-use Rattle.network.specs.Network.{peer, with_pubs, with_pending, with_seen, with_all}
-use Rattle.network.specs.Rules.{fault_of}
+use Rattle.network.specs.Network.{with_pubs, with_pending, with_seen}
 use Rattle.network.specs.laws.Faults.{verdict_none, clean_more, verdict_one}
 use Rattle.network.proofs.verdict.verdict.Goals as goal
 

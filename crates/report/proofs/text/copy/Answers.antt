@@ -1,9 +1,6 @@
 -- `report::text::copy` meets its contract. Assumes nothing.
 use borrow.Author.Rules.{rules}
-use mathlib.Core.Path.{◌≡◌}
-use Prim.Native.Nat.{◌+◌, ◌-◌, ◌≤◌}
-use lib.ListN.{length, take, length-set}
-use Rattle.report.specs.Write.{Wrote}
+use lib.ListN.{length-set}
 use Rattle.report.proofs.Write.{wrote_none_yet, wrote_next, wrote_all}
 use Rattle.report.proofs.text.copy.Goals as goal
 

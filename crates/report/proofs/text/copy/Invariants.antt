@@ -1,10 +1,8 @@
 -- The invariants of `report::text::copy`. Assumes nothing.
-use borrow.Author.Rules.{rules}
 use mathlib.Core.Path.{◌≡◌}
 use Prim.Native.Nat.{◌+◌, ◌-◌, ◌≤◌}
-use lib.ListN.{length, take, length-set}
+use lib.ListN.{length, take}
 use Rattle.report.specs.Write.{Wrote}
-use Rattle.report.proofs.Write.{wrote_none_yet, wrote_next, wrote_all}
 use Rattle.report.proofs.text.copy.Given as goal
 
 abbrev pub invariant-loop-i : goal.invariant-loop-i

@@ -1,5 +1,4 @@
 -- `report::text::newline` meets its contract. Assumes nothing.
-use borrow.Author.Rules.{rules}
 use Rattle.report.proofs.Write.{wrote_one}
 use Rattle.report.proofs.text.newline.Goals as goal
 

@@ -32,8 +32,6 @@ include=$(cc -E -Wp,-v -xc /dev/null -o /dev/null 2>&1 | sed -n 's/^ /-isystem /
     "$program.o" "$library" 2>"$program.log" || { cat "$program.log" >&2; exit 1; }
 rm -f "$program.o" "$program.log"
 # The program is looked for beside the script, so that the two can be moved together.
-{
-    echo '#!/bin/sh'
-    echo "exec $(emulated "\${0%/*}/$(basename "$program").x86_64" | sed 's/.*/"&"/' | tr '\n' ' ')\"\$@\""
-} >"$program"
+words=$(emulated "\${0%/*}/$(basename "$program").x86_64" | sed 's/.*/"&"/' | tr '\n' ' ')
+printf '#!/bin/sh\nexec %s"$@"\n' "$words" >"$program"
 chmod +x "$program"

@@ -19,10 +19,10 @@ export RELAY_ENGINE_DIR
 library := $(RELAY_ENGINE_DIR)/libengine.a
 else
 library := target/staticlib/libengine.a
-$(library): crates.txt $(shell find crates -type f -not -path '*/must-fail/*')
+$(library): crates.txt $(shell find crates -type f -not -path '*/must-fail/*' -not -path 'crates/*/out/*')
 	@echo "make: proving the engine and compiling it: some minutes from nothing, and not again while the crates stay as they are."
 	@echo "make: lines with 'note:' are the prover's remarks, mostly on what a proof costs, and no faults: a fault ends this with an error."
-	rt staticlib engine
+	sh tools/build-engine.sh library
 	@touch $@
 	@echo "make: proved and compiled: $@"
 endif

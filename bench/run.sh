@@ -9,7 +9,7 @@ if [ "$(uname -m)" != x86_64 ]; then
     echo "docs/BENCH.md has tables and says where they were made."
     exit 0
 fi
-[ -n "${RELAY_ENGINE_DIR-}" ] || rt staticlib engine > /dev/null
+[ -n "${RELAY_ENGINE_DIR-}" ] || sh tools/build-engine.sh library > /dev/null
 mkdir -p target/bench
 rustc --edition 2021 -O -L "native=${RELAY_ENGINE_DIR:-target/staticlib}" -l static=engine bench/bench.rs -o target/bench/bench
 model=$(sed -n 's/^model name[[:space:]]*: //p' /proc/cpuinfo | head -n 1)

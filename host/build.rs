@@ -1,8 +1,8 @@
 //! Finds the engine's static library, and how this machine can call it.
 //!
 //! The library is `libengine.a` in the folder that RELAY_ENGINE_DIR names, or else in `../target/staticlib`, where
-//! `rt staticlib engine` writes it. It is x86-64 code. On x86-64 it is linked; on another machine `link-c.sh` makes a
-//! process of it (`bridge.c`), which the crate talks to instead (`src/bridge.rs`).
+//! `sh tools/build-engine.sh library` writes it. It is x86-64 code. On x86-64 it is linked; on another machine `link-c.sh`
+//! makes a process of it (`bridge.c`), which the crate talks to instead (`src/bridge.rs`).
 
 use std::path::{Path, PathBuf};
 use std::process::{exit, Command};
@@ -20,7 +20,7 @@ fn main() {
     println!("cargo:rustc-check-cfg=cfg(bridged)");
     let Ok(bytes) = fs::read(&library) else {
         eprintln!("no engine at {}", library.display());
-        eprintln!("`rt staticlib engine` makes it; RELAY_ENGINE_DIR names another folder.");
+        eprintln!("`sh tools/build-engine.sh library` makes it; RELAY_ENGINE_DIR names another folder.");
         exit(1);
     };
     let processor = processor(&bytes);
@@ -45,7 +45,7 @@ fn processor(archive: &[u8]) -> Option<&'static str> {
 
 /// Makes the engine's process, and tells the crate where it is.
 fn bridge(host: &Path, library: &Path) {
-    for file in ["bridge.c", "relay.h", "link-c.sh"] {
+    for file in ["bridge.c", "relay.h", "link-c.sh", "emulator.sh"] {
         println!("cargo:rerun-if-changed={}", host.join(file).display());
     }
     let program = PathBuf::from(setting("OUT_DIR")).join("engine-process");

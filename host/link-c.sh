@@ -2,8 +2,8 @@
 # Makes a program from one C file and the engine's static library:  link-c.sh LIBRARY PROGRAM FILE.c
 #
 # Where the library is code for this machine, the machine's own C compiler does it. The engine's library is x86-64 code; on
-# another machine the Rattle kit's compiler and linker make an x86-64 program, and PROGRAM is a two-line script that runs
-# it under the kit's emulator. Either way PROGRAM can be run as it stands.
+# another machine the compiler and linker of a Rattle kit that has an emulator for it make an x86-64 program, and PROGRAM is a
+# two-line script that runs it under the emulator. Either way PROGRAM can be run as it stands.
 set -eu
 [ $# -eq 3 ] || { echo "usage: link-c.sh LIBRARY PROGRAM FILE.c" >&2; exit 2; }
 library=$1 program=$2 source=$3
@@ -23,21 +23,15 @@ if [ "$for" = "$(uname -m)" ]; then
 fi
 [ "$for" = x86_64 ] || { echo "link-c.sh: $library is for $for, and this machine is $(uname -m)" >&2; exit 1; }
 
-# The kit has a compiler, a C library and an emulator, but no C headers: this machine's own serve, since sizes and layouts
-# agree. Its C compiler lists where they are.
+# Such a kit has no C headers: this machine's own serve, since sizes and layouts agree. Its C compiler lists where they are.
 include=$(cc -E -Wp,-v -xc /dev/null -o /dev/null 2>&1 | sed -n 's/^ /-isystem /p')
-kit=${RATTLE_HOME:-$(dirname "$(dirname "$(rt doc)")")}
-own=$kit/on/$(uname -m)
-tools=$own/toolchain
-[ -x "$tools/bin/qemu-x86_64" ] || { echo "link-c.sh: the Rattle kit has no emulator for $(uname -m)" >&2; exit 1; }
+. "$headers/emulator.sh"
 # shellcheck disable=SC2086
 "$tools/bin/clang" --target=x86_64-unknown-linux-gnu -fPIC $strict -I "$headers" $include -c "$source" -o "$program.o"
 "$own/bin/rattle-link" --target x86_64-unknown-linux-gnu --toolchain "$tools" -o "$program.x86_64" \
     "$program.o" "$library" 2>"$program.log" || { cat "$program.log" >&2; exit 1; }
 rm -f "$program.o" "$program.log"
 # The program is looked for beside the script, so that the two can be moved together.
-cat >"$program" <<EOF
-#!/bin/sh
-exec "$tools/bin/qemu-x86_64" "$tools/lib/ld-linux-x86-64.so.2" --library-path "$tools/lib" "\${0%/*}/$(basename "$program").x86_64" "\$@"
-EOF
+words=$(emulated "\${0%/*}/$(basename "$program").x86_64" | sed 's/.*/"&"/' | tr '\n' ' ')
+printf '#!/bin/sh\nexec %s"$@"\n' "$words" >"$program"
 chmod +x "$program"

@@ -7,7 +7,7 @@
  *   - a buffer that is lent for writing overlaps no other buffer of the same call, and nobody else uses it meanwhile;
  *   - a tally lies on an address that is fit for a uint64_t, as every struct relay_tally does.
  *
- * No call allocates. Of stack a run needs 6.9 KB, a forward 6.7, a drain 7.3, an image 10.6, a check or a copy 5.9 (measured);
+ * No call allocates. Of stack a run needs 6.9 KB, a forward 6.8, a drain 7.5, an image 10.6, a check or a copy 5.9 (measured);
  * 16 KB are enough for each.
  *
  * The library is x86-64 code (docs/HOST.md says how other machines call it).

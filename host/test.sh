@@ -5,13 +5,13 @@
 #
 #     bash host/test.sh
 #
-# Needs cargo, a C compiler and the library, which `rt staticlib engine` makes if it isn't there. RELAY_ENGINE_DIR
+# Needs cargo, a C compiler and the library, which tools/build-engine.sh makes if it isn't there. RELAY_ENGINE_DIR
 # names another folder than target/staticlib. What needs a browser is left out where there is no chromium.
 set -u
 cd "$(dirname "$0")/.." || exit 2
 export RELAY_ENGINE_DIR=${RELAY_ENGINE_DIR:-$PWD/target/staticlib}
 library=$RELAY_ENGINE_DIR/libengine.a
-[ -f "$library" ] || rt staticlib engine || exit 2
+[ -f "$library" ] || sh tools/build-engine.sh library || exit 2
 room=$(mktemp -d) || exit 2
 trap 'rm -rf "$room"' EXIT
 tried=0 wrong=0

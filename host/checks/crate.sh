@@ -26,6 +26,18 @@ declaring=$(grep -rlE 'fn relay_[a-z]+\(|^(struct [a-z]+|relay_[a-z]+) relay_[a-
     { echo "$declaring"; false; }
 verdict $? "the interface is declared once"
 
+# What the library exports has the promises of the engine's own functions: parameters and clauses, however the lines are broken.
+promises() { # FILE...
+    awk '/^pub (extern "C" )?fn relay_/ { taking = 1; all = "" }
+        taking && /^\{/ { print all; taking = 0 }
+        taking { all = all " " $0 }' "$@" |
+        sed 's/extern "C" //; s/[[:space:]]\{1,\}/ /g; s/( /(/g; s/,\{0,1\} )/)/g' | LC_ALL=C sort
+}
+promises crates/engine/src/*.rt >"$room/want"
+promises crates/engine_c/src/lib.rt >"$room/wrote"
+[ "$(grep -c ensures "$room/want")" -eq 6 ] && diff -u "$room/want" "$room/wrote"
+verdict $? "the library promises what the engine does, word for word"
+
 # Above its tests, no file of the crate has a word that panics.
 panicking=$(for file in host/src/*.rs; do
     sed '/^#\[cfg(test)\]/,$d' "$file" | grep -nE '(panic|assert(_eq|_ne)?|unreachable|todo|unimplemented)!|\.(unwrap|expect)\(' |

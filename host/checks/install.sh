@@ -1,24 +1,27 @@
 # Part of host/test.sh: what the Makefile proves and installs. Begins and ends in the repository's folder.
 
 # The engine is proved when its crates have changed, and not otherwise; told with an `rt` that only counts.
-mkdir -p "$room/tree/host" "$room/counting"
-cp -R Makefile crates.txt crates "$room/tree/"
-cp host/Cargo.toml "$room/tree/host/"
+mkdir -p "$room/tree" "$room/counting"
+tar -c --exclude='crates/*/out' Makefile crates.txt crates tools/build-engine.sh host/Cargo.toml | tar -x -C "$room/tree"
+# As `rt` does, it leaves things of its own beside what it makes, and writes the library over and over.
 cat >"$room/counting/rt" <<'RT'
 #!/bin/sh
-echo "$*" >>counted
-mkdir -p target/staticlib
-[ -f target/staticlib/libengine.a ] || echo made >target/staticlib/libengine.a
+echo "$* in ${PWD##*/}" >>../../counted
+mkdir -p out/incremental
+echo kept >out/incremental/work
+echo made >"out/lib${PWD##*/}.a"
 RT
 chmod +x "$room/counting/rt"
 proves() { # TIMES WHAT
     PATH=$room/counting:$PATH env -u RELAY_ENGINE_DIR -u MAKEFLAGS make -s -C "$room/tree" library >"$room/wrote" 2>&1 &&
-        [ "$(grep -c '^staticlib engine$' "$room/tree/counted")" -eq "$1" ]
+        [ "$(grep -c '^lib in engine_c$' "$room/tree/counted")" -eq "$1" ] &&
+        cmp "$room/tree/crates/engine_c/out/libengine_c.a" "$room/tree/target/staticlib/libengine.a"
     verdict $? "make: $2"
 }
 proves 1 "the engine is proved once"
 grep -q "'note:' are the prover's remarks" "$room/wrote"
 verdict $? "make says what the prover's notes are"
+touch "$room/tree/crates/engine_c/out/incremental/work"
 proves 1 "nothing changed, nothing is proved"
 touch "$room/tree/crates/engine/src/lib.rt"
 proves 2 "a changed crate is proved again"

@@ -23,8 +23,7 @@ pub(crate) fn answer(number: u8, place: usize, detail: u8) -> Checked
 }
 
 // "Reading [..] refuse[s] by 1, then" 20 to 26, "and by nothing else".
-#[unsafe(no_mangle)]
-pub extern "C" fn relay_check(state: &[u8]) -> Checked
+pub fn relay_check(state: &[u8]) -> Checked
     ensures { result ≡ check_of state.now }
 {
     let mut pubs = [0u32; 32];
@@ -46,8 +45,7 @@ pub extern "C" fn relay_check(state: &[u8]) -> Checked
 }
 
 // Reads a state and writes it to another buffer; a refusal leaves that buffer untouched.
-#[unsafe(no_mangle)]
-pub extern "C" fn relay_copy(from: &[u8], to: &mut [u8]) -> Checked
+pub fn relay_copy(from: &[u8], to: &mut [u8]) -> Checked
     ensures { (result ≡ copy_of from.now to.old) × (to.new ≡ copied_of from.now to.old) }
 {
     let mut pubs = [0u32; 32];
@@ -141,8 +139,7 @@ fn forward_saved(
 
 // "Called alone on a state, table, peer and message, it refuses by 1, 2, 4," 20 to 26, "7, 8, 13 in this order, place 0 for the last
 // three, buffers untouched"; it answers "the set of peers that newly hold the message" (E2), and its size.
-#[unsafe(no_mangle)]
-pub extern "C" fn relay_forward(state: &mut [u8], table: &[u8], peer: u8, message: u8) -> Forwarded
+pub fn relay_forward(state: &mut [u8], table: &[u8], peer: u8, message: u8) -> Forwarded
     ensures { (result ≡ (forward_of state.old table.now peer message).answer) ×
         (state.new ≡ (forward_of state.old table.now peer message).state) }
 {

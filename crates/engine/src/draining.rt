@@ -34,8 +34,7 @@ fn done(d: drain::Drains) -> Drained
 
 // Drains the state by rounds, within a budget of forwards: "it answers the forwards made, the rounds finished, and whether nothing
 // is pending". A refusal leaves the state untouched.
-#[unsafe(no_mangle)]
-pub extern "C" fn relay_drain(state: &mut [u8], table: &[u8], budget: u32) -> Drained
+pub fn relay_drain(state: &mut [u8], table: &[u8], budget: u32) -> Drained
     ensures { (result ≡ (drain_end_of state.old table.now budget).answer) ×
         (state.new ≡ (drain_end_of state.old table.now budget).state) }
 {

@@ -6,8 +6,7 @@ use crate::alone;
 use network::Checked;
 
 // "Refusals 1," 20 to 26, "18 in that order leave both buffers untouched; the state is never written."
-#[unsafe(no_mangle)]
-pub extern "C" fn relay_image(state: &[u8], image: &mut [u8]) -> Checked
+pub fn relay_image(state: &[u8], image: &mut [u8]) -> Checked
     ensures { (result ≡ image_answer_of state.now image.old) ×
         (image.new ≡ imaged_of state.now image.old) }
 {

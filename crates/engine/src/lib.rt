@@ -1,6 +1,6 @@
 // The engine: the entry points that a host calls (document 01, "Numbers returned"): relay_run, relay_forward, relay_drain,
 // relay_image, relay_check and relay_copy. Each takes arbitrary bytes and asks nothing; its promise is an equation that fixes the
-// answer and each lent byte, on acceptance and refusal alike.
+// answer and each lent byte, on acceptance and refusal alike. The crate engine_c exports them to C.
 //
 // Read specs/Start.antt (the refusals before any event), specs/Run.antt (a run), specs/Alone.antt (the single forward, reading, writing),
 // specs/Draining.antt and specs/Imaging.antt. What follows from the promises, on bytes, is the crate pages. specs/laws/ has laws that others
@@ -16,6 +16,9 @@ pub mod start; // start.rt: the refusals before any event
 
 ghost use Rattle.engine.specs.Run.{run_of, Ends};
 
+pub use alone::{relay_check, relay_copy, relay_forward};
+pub use draining::relay_drain;
+pub use imaging::relay_image;
 use network::{Network, Table};
 
 // The counts that a host lends: updated event by event.
@@ -90,13 +93,7 @@ pub struct Ran {
 
 // The run over a list of events. The host's own tally record is lent on, count by count, and is updated event by event; events are
 // taken through a reader.
-#[unsafe(no_mangle)]
-pub extern "C" fn relay_run(
-    state: &mut [u8],
-    table: &[u8],
-    events: &[u8],
-    tally: &mut Tally,
-) -> Answer
+pub fn relay_run(state: &mut [u8], table: &[u8], events: &[u8], tally: &mut Tally) -> Answer
     ensures { Ends result state.new tally.new
         (run_of state.old table.now events.now tally.old) }
 {

@@ -7,6 +7,7 @@
 // worked out by hand. The rules go by their numbers:
 //   20 the first four bytes, 21 absent and not empty, 22 own neighbour, 23 a neighbour absent, 24 a neighbour that does not list back,
 //   25 known subscribers, 26 pending also seen.
+// A line that can't be written ends the program with that error.
 //
 // Read on: states (the sound states), reads, writes, tables (the cases), print (a line).
 #![tactic(auto)]
@@ -17,28 +18,30 @@ mod states;
 mod tables;
 mod writes;
 
-fn main() {
-    reads::accepted();
-    reads::lengths();
-    reads::rule_20();
-    reads::rule_21_first();
-    reads::rule_21_last();
-    reads::rule_22();
-    reads::rule_23();
-    reads::rule_24();
-    reads::rule_25();
-    reads::rule_26();
-    reads::lowest();
-    reads::lowest_detail();
-    writes::accepted();
-    writes::lengths();
-    writes::rule_21();
-    writes::rule_22();
-    writes::rule_23();
-    writes::rule_24();
-    writes::rule_25();
-    writes::rule_26();
-    tables::accepted();
-    tables::lengths();
-    tables::rows();
+use std::io;
+
+fn main(rt: HostRuntime) -> io::Result<()> {
+    reads::accepted(&rt)?;
+    reads::lengths(&rt)?;
+    reads::rule_20(&rt)?;
+    reads::rule_21_first(&rt)?;
+    reads::rule_21_last(&rt)?;
+    reads::rule_22(&rt)?;
+    reads::rule_23(&rt)?;
+    reads::rule_24(&rt)?;
+    reads::rule_25(&rt)?;
+    reads::rule_26(&rt)?;
+    reads::lowest(&rt)?;
+    reads::lowest_detail(&rt)?;
+    writes::accepted(&rt)?;
+    writes::lengths(&rt)?;
+    writes::rule_21(&rt)?;
+    writes::rule_22(&rt)?;
+    writes::rule_23(&rt)?;
+    writes::rule_24(&rt)?;
+    writes::rule_25(&rt)?;
+    writes::rule_26(&rt)?;
+    tables::accepted(&rt)?;
+    tables::lengths(&rt)?;
+    tables::rows(&rt)
 }

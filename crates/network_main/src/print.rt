@@ -1,58 +1,64 @@
 // One line of the output, and the comparison that its last word rests on.
+ghost use Rattle.std.specs.Prelude.{◌≡◌, ◌↔◌, IsTrue};
+
+use std::io;
 
 // A byte as a number that can be printed.
 fn wide(x: u8) -> u64 {
-    x as u64
+    u64::from(x)
 }
 
 // The two slices have the same bytes.
-pub(crate) fn same(a: &[u8], b: &[u8]) -> bool {
-    if a.len() != b.len() {
-        return false;
-    }
-    let mut i: usize = 0;
-    while i < a.len() {
-        if a[i] != b[i] {
-            return false;
-        }
-        i += 1;
-    }
-    true
+pub(crate) fn same(a: &[u8], b: &[u8]) -> bool
+    ensures { IsTrue result ↔ (a.now ≡ b.now) }
+{
+    a == b
 }
 
 // A word and a number after it.
-pub(crate) fn word(text: &[u8], n: u64) {
-    io::write_all(1, text);
-    io::print_decimal(1, n);
+pub(crate) fn word(rt: &impl Print, text: &str, n: u64) -> io::Result<()> {
+    print!(rt; "{text}{n}")
 }
 
 // `, byte B = X`: the byte that was set.
-pub(crate) fn byte(at: usize, x: u8) {
-    word(b", byte ", at as u64);
-    word(b" = ", wide(x));
+pub(crate) fn byte(rt: &impl Print, at: usize, x: u8) -> io::Result<()> {
+    word(rt, ", byte ", at as u64)?;
+    word(rt, " = ", wide(x))
 }
 
 // The word that says what was left behind, or that it was not; and the end of the line.
-fn ending(left: &[u8], is_left: bool) {
-    io::write_all(1, b" ");
+fn ending(rt: &impl Print, left: &str, is_left: bool) -> io::Result<()> {
+    print!(rt; " ")?;
     if !is_left {
-        io::write_all(1, b"NOT ");
+        print!(rt; "NOT ")?;
     }
-    io::write_all(1, left);
-    io::write_all(1, b"\n");
+    println!(rt; "{left}")
 }
 
 // `: N P`, the answer, and what was left behind.
-pub(crate) fn answer(number: u8, place: usize, left: &[u8], is_left: bool) {
-    word(b": ", wide(number));
-    word(b" ", place as u64);
-    ending(left, is_left);
+pub(crate) fn answer(
+    rt: &impl Print,
+    number: u8,
+    place: usize,
+    left: &str,
+    is_left: bool,
+) -> io::Result<()> {
+    word(rt, ": ", wide(number))?;
+    word(rt, " ", place as u64)?;
+    ending(rt, left, is_left)
 }
 
 // The same with the detail: `: N P D`.
-pub(crate) fn detailed(number: u8, place: usize, detail: u8, left: &[u8], is_left: bool) {
-    word(b": ", wide(number));
-    word(b" ", place as u64);
-    word(b" ", wide(detail));
-    ending(left, is_left);
+pub(crate) fn detailed(
+    rt: &impl Print,
+    number: u8,
+    place: usize,
+    detail: u8,
+    left: &str,
+    is_left: bool,
+) -> io::Result<()> {
+    word(rt, ": ", wide(number))?;
+    word(rt, " ", place as u64)?;
+    word(rt, " ", wide(detail))?;
+    ending(rt, left, is_left)
 }

@@ -1,21 +1,43 @@
 -- Laws of the run program: what is read of an input, that nothing is lost by it, and that the whole answer is written. Assumes nothing.
-use Rattle.std.proofs.Common.{◌≡◌, ap, subst, ◌∙◌, ℕ, ◌<◌, ◌≤◌, List, [], ◌++◌, length, take, drop, IfSome, arith}
+use Rattle.std.proofs.Common.{◌≡◌, sym, ap, subst, ◌∙◌, ℕ, ◌+◌, ◌<◌, ◌≤◌, List, ◌++◌, append-nil, length, take, drop, drop_at, length-take-le, IfSome, arith, le_refl}
+use Rattle.std.proofs.KnownBytes.{Consumes-trans}
+use borrow.Rule.Slice.PartMut.{put_mid, post_of}
 use native.Mathlib.Decide.{dec_lt}
 use Rattle.std.proofs.lemmas.Bool.{lt-ltb, le-ltb}
-use Rattle.std.proofs.lemmas.List.{length-take, take_all}
-use Rattle.std.proofs.Math.Seq.{take-append_seam}
+use Rattle.std.proofs.lemmas.List.{length-take, take-append-le, take_all, take_at}
+use Rattle.std.proofs.lemmas.Slice.{take-put_mid_below}
+use Rattle.std.proofs.Math.Seq.{take-add, take-append_seam}
 use Rattle.std.specs.Prelude.{None, Some}
 use Rattle.std.specs.declared.option.Option.{Option}
-use Rattle.std.specs.Option.{option_map}
+use Rattle.std.specs.Io.KnownBytes.{Consumes, IsAtEnd}
 use Rattle.report.specs.Report.{put_in, count_in}
 use Rattle.console.specs.Console.{flood_of, Printed}
 
--- Of a reader whose bytes are known, what is read behind nothing is the first k of them.
-pub read_known : (known : Option (List ℕ)) (k : ℕ) (old new : List ℕ) → old ≡ []
-    → IfSome (option_map (take k) known) (λ xs. new ≡ old ++ xs)
-    → IfSome known (λ bytes. new ≡ take k bytes)
-read_known None k old new e h = h
-read_known (Some bytes) k old new e h = subst (λ (x : List ℕ). new ≡ x ++ take k bytes) e h
+-- What was read stands before `at`. One read more, into what lies from there on, puts n bytes behind it, and the front ends at e.
+pub read_more : (known mid left : Option (List ℕ)) (at room n e : ℕ) (buf part : List ℕ) → at + n ≡ e → at ≤ length buf → n ≤ length part
+    → Consumes known mid (take at buf) → Consumes mid left (take n part)
+    → Consumes known left (take e (put_mid at room buf part))
+read_more known mid left at room n e buf part ends within fits before read =
+    let front = take-put_mid_below at room buf part at (le_refl at) within in
+    let behind = drop_at (take at buf) (part ++ post_of at room buf) at (length-take-le at buf within) in
+    let joined : take e (put_mid at room buf part) ≡ take at buf ++ take n part = rw (← ends, take-add, front, behind, take-append-le) in
+    rw joined (Consumes-trans known mid left (take at buf) (take n part) before read)
+
+-- Where nothing is left, or no room, what was read is the front of all.
+pub read_known : (known left : Option (List ℕ)) (got : List ℕ) (room : ℕ) → length got ≤ room → Consumes known left got
+    → (length got < room → IsAtEnd left)
+    → IfSome known (λ bytes. got ≡ take room bytes)
+read_known None left got room fits read end = tt
+read_known (Some bytes) None got room fits read end = absurd read
+read_known (Some bytes) (Some rest) got room fits read end = both (dec_lt (length got) room)
+  where
+    both : Dec (length got < room) → got ≡ take room bytes
+    both (yes h) =
+        let whole : bytes ≡ got = read ∙ ap (λ (x : List ℕ). got ++ x) (end h) ∙ append-nil got in
+        rw whole (sym (take_all room got fits))
+    both (no h) =
+        let full : length got ≡ room = omega arith in
+        rw read (sym (take_at got rest room full))
 
 -- In a buffer of 1,024 bytes or more what was counted is the whole text.
 pub whole_text : (text entry exit : List ℕ) (r : ℕ) → 1024 ≤ length entry → Printed text entry exit r → take r exit ≡ text

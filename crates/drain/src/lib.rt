@@ -18,7 +18,7 @@ ghost use Rattle.drain.specs.Lent.{Leads, DrainsTo};
 use network::{Message, Peer};
 
 // What a drain answers: "the forwards made, the rounds finished, and whether nothing is pending".
-#[derive(Drop)]
+#[derive(Clone, Copy)]
 pub struct Drains {
     pub forwards: u32,
     pub rounds: u32,

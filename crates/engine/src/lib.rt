@@ -23,7 +23,7 @@ use network::{Network, Table};
 
 // The counts that a host lends: updated event by event.
 #[repr(C)]
-#[derive(Drop)]
+#[derive(Clone, Copy)]
 pub struct Tally {
     pub produced: u64,
     pub forwards: u64,
@@ -33,7 +33,7 @@ pub struct Tally {
 // The answer of a run: "a number, a place and the count of accepted events". In this and the following answers the detail, document 02's E1,
 // lies where C has padding: the lowest peer or topic at fault where the number is 23 to 25, else 0.
 #[repr(C)]
-#[derive(Drop)]
+#[derive(Clone, Copy)]
 pub struct Answer {
     pub number: u8,
     pub detail: u8,
@@ -43,7 +43,7 @@ pub struct Answer {
 
 // The answer of a single forward: the peers that newly hold the message (document 02's E2, where C has padding), and their number.
 #[repr(C)]
-#[derive(Drop)]
+#[derive(Clone, Copy)]
 pub struct Forwarded {
     pub number: u8,
     pub detail: u8,
@@ -54,7 +54,7 @@ pub struct Forwarded {
 
 // The answer of a drain: a refusal and its place, or the forwards made, the rounds finished and whether nothing is pending.
 #[repr(C)]
-#[derive(Drop)]
+#[derive(Clone, Copy)]
 pub struct Drained {
     pub number: u8,
     pub detail: u8,
@@ -65,7 +65,7 @@ pub struct Drained {
 }
 
 // What an entry point begins with: zeros and what was read, or the number, place and detail of a refusal.
-#[derive(Drop)]
+#[derive(Clone, Copy)]
 pub struct Begun {
     pub number: u8,
     pub place: usize,
@@ -75,7 +75,7 @@ pub struct Begun {
 }
 
 // The same where the network was read into lent arrays: who is present, and the table.
-#[derive(Drop)]
+#[derive(Clone, Copy)]
 pub struct Started {
     pub number: u8,
     pub place: usize,
@@ -85,7 +85,7 @@ pub struct Started {
 }
 
 // How a run over events ended: its answer, and the network then.
-#[derive(Drop)]
+#[derive(Clone, Copy)]
 pub struct Ran {
     pub answer: Answer,
     pub network: Network,

@@ -22,7 +22,7 @@ pub mod kind; // kind.rt: the kind of an event, for the answers
 use network::{Message, Peer};
 
 // What a joining peer brings: its topics and its neighbours.
-#[derive(Drop)]
+#[derive(Clone, Copy)]
 pub struct Joining {
     pub subs: u32,
     pub pubs: u32,
@@ -30,7 +30,7 @@ pub struct Joining {
 }
 
 // Each kind carries only its own fields. A set of topics is a word.
-#[derive(Drop)]
+#[derive(Clone, Copy)]
 pub enum Event {
     Skip,
     Produce(Peer, Message),
@@ -43,7 +43,7 @@ pub enum Event {
 
 // What reading finds: an event; no record any more; a code that is none of the seven (refusal 6); a peer or message out of
 // range, or an unused byte that is not zero (refusal 7).
-#[derive(Drop)]
+#[derive(Clone, Copy)]
 pub enum Read {
     Taken(Event),
     End,
@@ -52,7 +52,7 @@ pub enum Read {
 }
 
 // The same in 01's numbers and values: whether a record was there, its number, and its event (Skip where none is taken).
-#[derive(Drop)]
+#[derive(Clone, Copy)]
 pub struct Reading {
     pub found: bool,
     pub number: u8,
@@ -246,7 +246,7 @@ pub fn write_at(bytes: &mut [u8], place: usize, e: Event) -> bool
 }
 
 // "A reader that carries the event bytes together with its place."
-#[derive(Drop)]
+#[derive(Clone, Copy)]
 pub struct Reader<'a> {
     pub bytes: &'a [u8],
     pub place: usize,
@@ -265,7 +265,7 @@ pub fn next<'a>(r: Reader<'a>) -> Read
     read_at(r.bytes, r.place)
 }
 
-// Plain parameters: a Reader is made in a local and passed on. Whoever calls this needs no walk.
+// Plain parameters: a Reader is made in a local and passed on.
 pub fn event_at(bytes: &[u8], place: usize) -> Read
     ensures { reading_of result ≡ reading_at bytes.now place }
 {

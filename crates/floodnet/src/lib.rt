@@ -23,7 +23,7 @@ pub mod turns; // turns.rt: an event of each kind, asked and done; the single fo
 
 // What one event comes to: 0 or the number of the refusal; the kind of the event, refused or not; and the receivers of an
 // accepted forward, the set of peers that newly hold its message, else none.
-#[derive(Drop)]
+#[derive(Clone, Copy)]
 pub struct Turned {
     pub number: u8,
     pub kind: Kind,

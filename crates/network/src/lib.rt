@@ -29,7 +29,7 @@ pub struct Topic(pub u8);
 pub struct Message(pub u8);
 
 // The working state: for each peer its sets as words; `known` has the word of topic t of peer p at p * 32 + t.
-#[derive(Drop)]
+#[derive(Clone, Copy)]
 pub struct Network {
     pub present: u32,
     pub pubs: [u32; 32],
@@ -41,7 +41,7 @@ pub struct Network {
 }
 
 // The message table, read once: topic and origin of each message.
-#[derive(Drop)]
+#[derive(Clone, Copy)]
 pub struct Table {
     pub topics: [u8; 64],
     pub origins: [u8; 64],
@@ -49,7 +49,7 @@ pub struct Table {
 
 // What reading a state answers: the number of document 01 ("Numbers returned") or 02 (E1), the record at fault, the detail, and the network;
 // the blank one where the number is not 0.
-#[derive(Drop)]
+#[derive(Clone, Copy)]
 pub struct Opened {
     pub number: u8,
     pub place: usize,
@@ -58,7 +58,7 @@ pub struct Opened {
 }
 
 // What reading a state into lent arrays answers: the number, the record at fault, the detail, and who is present.
-#[derive(Drop)]
+#[derive(Clone, Copy)]
 pub struct Looked {
     pub number: u8,
     pub place: usize,
@@ -69,7 +69,7 @@ pub struct Looked {
 // What an entry point answers that only reads or writes: zeros, or the number of a refusal, its detail (the lowest peer or topic at fault where
 // the number is 23 to 25, else 0) and its place, here the record at fault. The detail lies where C has padding.
 #[repr(C)]
-#[derive(Drop)]
+#[derive(Clone, Copy)]
 pub struct Checked {
     pub number: u8,
     pub detail: u8,
@@ -77,7 +77,7 @@ pub struct Checked {
 }
 
 // What reading a message table answers: the number, the row at fault, and the table; zeros where the number is not 0.
-#[derive(Drop)]
+#[derive(Clone, Copy)]
 pub struct Listed {
     pub number: u8,
     pub place: usize,

@@ -1,7 +1,9 @@
 -- the working state, what a sound one is, and its bytes
+pub mod Refusal
 pub mod Network
 pub mod Sound
 pub mod Rules
+pub mod Refused
 pub mod State
 pub mod Rows
 -- what follows for every sound network, every state and every table

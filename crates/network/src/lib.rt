@@ -7,16 +7,19 @@
 #![tactic(auto)]
 
 mod load;
+pub mod refusal;
 mod rows;
 mod rules;
 mod store;
 mod verdict;
 
 ghost use Rattle.std.specs.Prelude.{◌≡◌, ◌+◌, ◌*◌, ◌<◌, length, get_or};
-ghost use Rattle.network.specs.Network.{mk, topic};
+ghost use Rattle.network.specs.Network.{mk, topic, topic_of};
 ghost use Rattle.network.specs.Storing.{put_messages};
 ghost use Rattle.network.specs.State.{blank_net, opened, open_of, Opens, bytes_of, write_of, written_of};
 ghost use Rattle.network.specs.Rows.{blank_table, listed, list_of};
+
+pub use refusal::Refusal;
 
 // "A peer number, a topic number and a message number are separate sorts": none stands where another is meant.
 #[derive(Clone, Copy)]
@@ -45,6 +48,25 @@ pub struct Network {
 pub struct Table {
     pub topics: [u8; 64],
     pub origins: [u8; 64],
+}
+
+// Who is refused, and where: the refusal, the record or row at fault (0 where none is), and the detail (02's E1: the lowest peer or topic at
+// fault for 23 to 25, else 0).
+#[derive(Clone, Copy, Debug, PartialEq, Eq)]
+pub struct Refused {
+    pub refusal: Refusal,
+    pub place: usize,
+    pub detail: u8,
+}
+
+impl Table {
+    // The topic of a message.
+    pub fn topic_of(&self, m: Message) -> Topic
+        requires { m.0 < 64 }
+        ensures { result ≡ topic_of self.now m }
+    {
+        Topic(self.topics[m.0 as usize])
+    }
 }
 
 // What reading a state answers: the number of document 01 ("Numbers returned") or 02 (E1), the record at fault, the detail, and the network;

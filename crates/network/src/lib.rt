@@ -122,7 +122,7 @@ pub fn blank() -> Network
 }
 
 // A reading that is refused answers the blank network.
-fn refused(number: u8, place: usize, detail: u8) -> Opened
+fn blank_with(number: u8, place: usize, detail: u8) -> Opened
     ensures { result ≡ opened number place detail blank_net }
 {
     Opened {
@@ -138,7 +138,7 @@ pub fn read(state: &[u8]) -> Opened
     ensures { result ≡ open_of state.now }
 {
     if state.len() != 5120 {
-        return refused(1, 0, 0);
+        return blank_with(1, 0, 0);
     }
     let heads = load::words(state, 0);
     let network = load::network(state);
@@ -153,7 +153,7 @@ pub fn read(state: &[u8]) -> Opened
         &network.known,
     );
     if verdict.number != 0 {
-        return refused(verdict.number, verdict.place, verdict.detail);
+        return blank_with(verdict.number, verdict.place, verdict.detail);
     }
     Opened {
         number: verdict.number,

@@ -1,67 +1,66 @@
 // Little-endian numbers of 4 and 8 bytes at a place of a slice.
 //
-// What it promises: `le4` and `le8` read the number whose lowest byte stands first, `put4` and `put8` write it and touch no other byte
-// (`le` and `put_le` of specs/Le.antt). The laws of specs/Le.antt say that what was written is read, that what was read and
-// is written back changes nothing, and that bytes, lengths and every other place stay as they were.
+// What it promises: `read` gives the number whose lowest byte stands first, `put` writes it and touches no other byte (`le` and `put_le` of
+// specs/Le.antt). The two widths are one trait, and the laws of specs/laws/Le.antt are over any number of bytes: what was written is read, what was
+// read and is written back changes nothing, and bytes, lengths and every other place stay as they were.
 //
 // Read on: specs/Le.antt, from its definitions down.
 #![tactic(auto)]
 
-ghost use Rattle.std.specs.Prelude.{◌≡◌, ◌+◌, ◌^◌, ◌≤◌, ◌<◌, length};
+ghost use Rattle.std.specs.Prelude.{◌≡◌, ℕ, ◌+◌, ◌≤◌, length};
 ghost use Rattle.endian.specs.Le.{le, put_le};
 
-// A byte as a number of 32 bits, with the bound that keeps the sums of `le4` in range.
-fn byte4(x: u8) -> u32
-    ensures { (result ≡ x) × (result < 256) }
-{
-    x as u32
+/// A number that stands in bytes, the lowest first.
+pub trait Little: Copy {
+    // How many bytes it takes, and what number it is.
+    ghost size: { ℕ };
+
+    ghost number: { Self → ℕ };
+
+    /// The number at `at`.
+    fn read(b: &[u8], at: usize) -> Self
+        requires { at + size ≤ length b.now }
+        ensures { number result ≡ le size b.now at };
+
+    /// Writes it as the number at `at`.
+    fn put(self, b: &mut [u8], at: usize)
+        requires { at + size ≤ length b.old }
+        ensures { b.new ≡ put_le size b.old at (number self) };
 }
 
-// Half of an 8-byte number, with the bound that keeps the sum of `le8` in range.
-fn wide8(x: u32) -> u64
-    ensures { (result ≡ x) × (result < 2 ^ 32) }
-{
-    x as u64
+impl Little for u32 {
+    ghost size = { 4 };
+
+    ghost number = { λ x. x };
+
+    fn read(b: &[u8], at: usize) -> u32 {
+        u32::from_le_bytes([b[at], b[at + 1], b[at + 2], b[at + 3]])
+    }
+
+    fn put(self, b: &mut [u8], at: usize) {
+        let [b0, b1, b2, b3] = self.to_le_bytes();
+        b[at] = b0;
+        b[at + 1] = b1;
+        b[at + 2] = b2;
+        b[at + 3] = b3;
+    }
 }
 
-// The 4-byte number at `at`.
-pub fn le4(b: &[u8], at: usize) -> u32
-    requires { at + 4 ≤ length b.now }
-    ensures { result ≡ le 4 b.now at }
-{
-    let b0 = byte4(b[at]);
-    let b1 = byte4(b[at + 1]);
-    let b2 = byte4(b[at + 2]);
-    let b3 = byte4(b[at + 3]);
-    b0 + 256 * (b1 + 256 * (b2 + 256 * b3))
-}
+impl Little for u64 {
+    ghost size = { 8 };
 
-// The 8-byte number at `at`.
-pub fn le8(b: &[u8], at: usize) -> u64
-    requires { at + 8 ≤ length b.now }
-    ensures { result ≡ le 8 b.now at }
-{
-    let lo = wide8(le4(b, at));
-    let hi = wide8(le4(b, at + 4));
-    lo + 4294967296 * hi
-}
+    ghost number = { λ x. x };
 
-// Writes x as the 4-byte number at `at`.
-pub fn put4(b: &mut [u8], at: usize, x: u32)
-    requires { at + 4 ≤ length b.old }
-    ensures { b.new ≡ put_le 4 b.old at x }
-{
-    b[at] = (x % 256) as u8;
-    b[at + 1] = (x / 256 % 256) as u8;
-    b[at + 2] = (x / 256 / 256 % 256) as u8;
-    b[at + 3] = (x / 256 / 256 / 256 % 256) as u8;
-}
+    fn read(b: &[u8], at: usize) -> u64 {
+        let low = u32::read(b, at);
+        let high = u32::read(b, at + 4);
+        u64::from(low) + 4294967296 * u64::from(high)
+    }
 
-// Writes x as the 8-byte number at `at`.
-pub fn put8(b: &mut [u8], at: usize, x: u64)
-    requires { at + 8 ≤ length b.old }
-    ensures { b.new ≡ put_le 8 b.old at x }
-{
-    put4(&mut *b, at, (x % 4294967296) as u32);
-    put4(&mut *b, at + 4, (x / 4294967296) as u32);
+    fn put(self, b: &mut [u8], at: usize) {
+        let low = (self % 4294967296) as u32;
+        let high = (self / 4294967296) as u32;
+        low.put(&mut *b, at);
+        high.put(&mut *b, at + 4);
+    }
 }

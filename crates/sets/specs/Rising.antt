@@ -1,6 +1,6 @@
 -- A set visited: its members one after the other, the least first. Assumes nothing.
-use Rattle.std.specs.Prelude.{cond, List, [], ◌∷◌, ◌++◌, ◌⊎◌, ◌≡◌, ℕ, zero, suc, ◌<◌}
-use Rattle.sets.specs.Set.{has}
+use Rattle.std.specs.Prelude.{cond, List, [], ◌∷◌, ◌++◌, ◌⊎◌, ◌≡◌, ℕ, zero, suc, ◌<◌, Option, Some, None}
+use Rattle.sets.specs.Set.{has, minus, only, lowest}
 
 -- what f gives for each member of w below n, rising
 unfoldable pub rising : {A : Type 0} → (ℕ → List A) → ℕ → ℕ → List A
@@ -20,3 +20,15 @@ In q (x ∷ l) = (q ≡ x) ⊎ In q l
 unfoldable pub Rising : List ℕ → Type 0
 Rising [] = Unit {0}
 Rising (x ∷ l) = ((q : ℕ) → In q l → x < q) × Rising l
+
+-- A step through w, a set of numbers below k: q, its least member, is taken away, and w' is left.
+pub record Takes (k w q w' : ℕ) : Type 0 where
+  pub some : 0 < w
+  pub least : q ≡ lowest k w
+  pub below : q < k
+  pub rest : w' ≡ minus w (only (lowest k w))
+
+-- What is given of w: nothing, where it has no member; else its least one.
+abbrev pub Gives : ℕ → ℕ → Option ℕ → ℕ → Type 0
+Gives k w None w' = (w ≡ 0) × (w' ≡ 0)
+Gives k w (Some q) w' = Takes k w q w'

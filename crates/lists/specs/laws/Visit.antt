@@ -5,11 +5,10 @@ use Rattle.std.proofs.Common.{sym, ap, ◌∙◌, arith, lt-ltb, le-ltb, ltb-tru
 use Rattle.std.proofs.Math.Bool.{and-false}
 use Rattle.std.proofs.Math.Decide.{dec_lt, ℕ_discrete}
 use Rattle.sets.specs.Set.{has, minus, only, when, lowest}
-use Rattle.sets.specs.Rising.{rising, members}
+use Rattle.sets.specs.Rising.{rising, members, Takes}
 use Rattle.sets.proofs.laws.Bools.{bool_ext}
 use Rattle.sets.proofs.laws.Bounds.{has_out, minus_lt}
-use Rattle.sets.proofs.laws.Lowest.{least_narrow, rest_narrow}
-use Rattle.sets.proofs.laws.Rising.{rising_empty, rising_lowest}
+use Rattle.sets.proofs.laws.Rising.{rising_empty, members_takes}
 use Rattle.lists.specs.Edit.{edit}
 use Rattle.lists.specs.Visit.{visits}
 use Rattle.lists.specs.laws.Edit.{edit_none, edit_alike, edit_store}
@@ -66,22 +65,17 @@ pub record Visiting (k s left : ℕ) (f : ℕ → ℕ → ℕ) (l₀ l : List �
   pub same : visits f (members k left) l ≡ visits f (members k s) l₀
 
 -- before the first turn
-pub visiting_none : (k s : ℕ) (f : ℕ → ℕ → ℕ) (l : List ℕ) → s < 2 ^ k → Visiting k s s f l l
-visiting_none k s f l h = record { below = h; same = refl }
+pub visiting_none : {k s left : ℕ} {f : ℕ → ℕ → ℕ} {l : List ℕ} → s < 2 ^ k → left ≡ s → Visiting k s left f l l
+visiting_none {k} {f = f} {l = l} h e = record { below = rw e h; same = ap (λ (x : ℕ). visits f (members k x) l) e }
 
 -- a turn: q, the least of those left, is visited
-pub visiting_more : {k s left left' q v : ℕ} {f : ℕ → ℕ → ℕ} {l₀ l : List ℕ} → Visiting k s left f l₀ l → 0 < left → q ≡ lowest k left
-    → left' ≡ minus left (only (lowest k left)) → v ≡ f q (get_or l q 0) → Visiting k s left' f l₀ (set l q v)
+pub visiting_more : {k s left left' q v : ℕ} {f : ℕ → ℕ → ℕ} {l₀ l : List ℕ} → Visiting k s left f l₀ l → Takes k left q left'
+    → v ≡ f q (get_or l q 0) → Visiting k s left' f l₀ (set l q v)
 unfolding visits
-visiting_more {k} {left = left} {f = f} {l = l} a p eq el ev = record {
-  below = rw el (minus_lt k left (only (lowest k left)) a.below);
-  same = rw (el, ev, eq) (sym (ap (λ (x : List ℕ). visits f x l) (rising_lowest (λ i. i ∷ []) k left p a.below)) ∙ a.same);
+visiting_more {k} {left = left} {f = f} {l = l} a t ev = record {
+  below = rw t.rest (minus_lt k left (only (lowest k left)) a.below);
+  same = rw ev (sym (ap (λ (x : List ℕ). visits f x l) (members_takes t)) ∙ a.same);
 }
-
--- the same, where those left, numbers below 32, stand in a word of 64 bits
-pub visiting_wide : {s left left' q v : ℕ} {f : ℕ → ℕ → ℕ} {l₀ l : List ℕ} → Visiting 32 s left f l₀ l → 0 < left → q ≡ lowest 64 left
-    → left' ≡ minus left (only (lowest 64 left)) → v ≡ f q (get_or l q 0) → Visiting 32 s left' f l₀ (set l q v)
-visiting_wide a p eq el ev = visiting_more a p (least_narrow p a.below eq).0 (rest_narrow p a.below el) ev
 
 -- after the last turn
 pub visiting_done : {k s left : ℕ} {f : ℕ → ℕ → ℕ} {l₀ l : List ℕ} → Visiting k s left f l₀ l → left ≡ 0 → l ≡ visits f (members k s) l₀

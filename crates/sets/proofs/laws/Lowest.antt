@@ -8,6 +8,7 @@ use Rattle.sets.specs.Set.{has, meet, minus, only, lowest}
 use Rattle.sets.proofs.laws.Bools.{clash, and_eqb}
 use Rattle.sets.proofs.laws.Members.{has_first, has_rest, has_meet, has_none, has_only, half_lt, ext}
 use Rattle.sets.proofs.laws.Bounds.{has_in, member_pos}
+use Rattle.sets.specs.Rising.{Takes}
 use Rattle.sets.specs.Least.{lowest_of}
 use Rattle.sets.proofs.laws.Least.{lowest_of_is, lowest_of_none}
 
@@ -20,6 +21,17 @@ lowest_has (suc k) w p h = go (w % 2) refl (λ (e : w % 2 ≡ 0). lowest_has k (
     go : (r : ℕ) → w % 2 ≡ r → (w % 2 ≡ 0 → has (w / 2) (lowest k (w / 2)) ≡ true) → has w (under r (count_trailing_zeros k (w / 2))) ≡ true
     go zero e ih = has_rest w (lowest k (w / 2)) ∙ ih e
     go (suc r) e ih = let o : w % 2 ≡ 1 = omega arith in has_first w ∙ ap (λ (x : ℕ). eqb x 1) o
+
+-- Where it is below the width it is a member, whatever the word has besides.
+pub lowest_member : (k w : ℕ) → lowest k w < k → has w (lowest k w) ≡ true
+unfolding lowest count_trailing_zeros
+lowest_member zero w l = absurd (not-suc-le-zero l)
+lowest_member (suc k) w l = go (w % 2) refl l (λ (i : lowest k (w / 2) < k). lowest_member k (w / 2) i)
+  where
+    go : (r : ℕ) → w % 2 ≡ r → under r (count_trailing_zeros k (w / 2)) < suc k → (lowest k (w / 2) < k → has (w / 2) (lowest k (w / 2)) ≡ true)
+        → has w (under r (count_trailing_zeros k (w / 2))) ≡ true
+    go zero e l ih = has_rest w (lowest k (w / 2)) ∙ ih (le_of_suc-le-suc l)
+    go (suc r) e l ih = let o : w % 2 ≡ 1 = omega arith in has_first w ∙ ap (λ (x : ℕ). eqb x 1) o
 
 -- What is below it is not.
 pub lowest_least : (k w j : ℕ) → j < lowest k w → has w j ≡ false
@@ -56,21 +68,31 @@ lowest_is k w t h e none =
 -- ---- a set of numbers below 32 in a word of 64 bits
 
 -- It has the same least member, which is below 32.
-pub least_narrow : {w q : ℕ} → 0 < w → w < 2 ^ 32 → q ≡ lowest 64 w → (q ≡ lowest 32 w) × (q < 32)
+least_narrow : {w q : ℕ} → 0 < w → w < 2 ^ 32 → q ≡ lowest 64 w → (q ≡ lowest 32 w) × (q < 32)
 least_narrow {w} {q} p h e = (e ∙ same, omega (arith, e, same, lowest_lt 32 w p h))
   where
     same : lowest 64 w ≡ lowest 32 w
     same = lowest_is 64 w (lowest 32 w) (omega arith) (lowest_has 32 w p h) (lowest_least 32 w)
+
+-- And the same others.
+rest_narrow : {w r : ℕ} → 0 < w → w < 2 ^ 32 → r ≡ minus w (only (lowest 64 w)) → r ≡ minus w (only (lowest 32 w))
+rest_narrow {w} p h e = e ∙ ap (λ (x : ℕ). minus w (only x)) (least_narrow p h refl).0
+
+-- A step through a set of numbers below 32 that stands in a word of 64 bits is a step through it.
+pub takes_narrow : {w q w' : ℕ} → w < 2 ^ 32 → Takes 64 w q w' → Takes 32 w q w'
+takes_narrow h t =
+    let l = least_narrow t.some h t.least in
+    record { some = t.some; least = l.0; below = l.1; rest = rest_narrow t.some h t.rest }
+
+-- A step takes a member.
+pub takes_has : {k w q w' : ℕ} → w < 2 ^ k → Takes k w q w' → has w q ≡ true
+takes_has {k} {w} h t = ap (has w) t.least ∙ lowest_has k w t.some h
 
 -- The least member is the least number that is a member.
 pub lowest_lowest_of : (k w : ℕ) → w < 2 ^ k → lowest k w ≡ lowest_of k (has w)
 lowest_lowest_of k zero h = lowest_none k ∙ sym (lowest_of_none k (has 0) (λ i l. has_none i))
 lowest_lowest_of k (suc w) h =
     sym (lowest_of_is k (has (suc w)) (lowest k (suc w)) (lowest_lt k (suc w) (zero-lt-suc w) h) (lowest_has k (suc w) (zero-lt-suc w) h) (lowest_least k (suc w)))
-
--- And the same others.
-pub rest_narrow : {w r : ℕ} → 0 < w → w < 2 ^ 32 → r ≡ minus w (only (lowest 64 w)) → r ≡ minus w (only (lowest 32 w))
-rest_narrow {w} p h e = e ∙ ap (λ (x : ℕ). minus w (only x)) (least_narrow p h refl).0
 
 -- ---- a member that is taken away
 

@@ -8,11 +8,11 @@ use Prim.Native.Nat.{ℕ, zero, suc, ◌+◌, ◌^◌, ◌<◌}
 use Rattle.std.proofs.Math.ListN.{length, length-append}
 use Rattle.sets.specs.Set.{has, minus, only, size, lowest, digit, count}
 use Rattle.sets.specs.Sums.{sum}
-use Rattle.sets.specs.Rising.{rising, members, In, Rising}
+use Rattle.sets.specs.Rising.{rising, members, In, Rising, Takes}
 use Rattle.sets.proofs.laws.Bools.{below_suc}
 use Rattle.sets.proofs.laws.Members.{has_none, has_without, has_without_other}
 use Rattle.sets.proofs.laws.Bounds.{has_in}
-use Rattle.sets.proofs.laws.Lowest.{lowest_has, lowest_least, lowest_lt}
+use Rattle.sets.proofs.laws.Lowest.{lowest_has, lowest_member, lowest_least, lowest_lt}
 use Rattle.sets.proofs.laws.Counts.{size_count}
 
 -- ---- one after the other
@@ -58,6 +58,12 @@ module _ {A : Type 0} (f : ℕ → List A) where
       last false = refl
 
 -- ---- the list of the members
+
+-- A step takes the first of them, and leaves the others, whatever the word has besides.
+pub members_takes : {k w q w' : ℕ} → Takes k w q w' → members k w ≡ q ∷ members k w'
+members_takes {k} {w} t =
+    let l : lowest k w < k = rw (sym t.least) t.below in
+    rw (t.least, t.rest) (rising_first (λ i. i ∷ []) w (lowest k w) k (lowest_member k w l) (lowest_least k w) l)
 
 -- What stands in a list stands in it with another behind it, or before it; and nothing else does.
 in_front : (q : ℕ) (l r : List ℕ) → In q l → In q (l ++ r)

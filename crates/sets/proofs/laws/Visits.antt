@@ -4,6 +4,7 @@ use Rattle.std.proofs.Common.{sym, ap, ◌∙◌, subst, ⊎_elim, eqb-true, pow
 use Rattle.std.proofs.Math.Bool.{and-true, and-false, or-true, or-false, and-not_self}
 use Rattle.std.proofs.lemmas.Bool.{eqb-false}
 use Rattle.sets.specs.Set.{has, union, minus, only, when, puts, with_if, set_of, sift, Subset, lowest}
+use Rattle.sets.specs.Rising.{Takes}
 use Rattle.sets.proofs.laws.Bools.{clash, or_right, or_yes, eqb_same, ne_eqb}
 use Rattle.sets.proofs.laws.Members.{has_union, has_none, has_only, ext, has_minus, membership}
 use Rattle.sets.proofs.laws.Bounds.{minus_lt}
@@ -85,36 +86,36 @@ pub record Visit (k s left r : ℕ) (p : ℕ → Bool) : Type 0 where
   pub filled : r ≡ sift k (minus s left) p
 
 -- Before the loop.
-pub visit_none : (k s : ℕ) (p : ℕ → Bool) → s < 2 ^ k → Visit k s s 0 p
+pub visit_none : {k s left : ℕ} {p : ℕ → Bool} → s < 2 ^ k → left ≡ s → Visit k s left 0 p
 unfolding sift
-visit_none k s p h = record {
-  below = h;
-  within = subset_self s;
-  filled = sym (set_of_none k (λ (i : ℕ). has (minus s s) i && p i) (λ i. rw (minus_self s, has_none i)));
+visit_none {k} {s} {p = p} h e = record {
+  below = rw e h;
+  within = rw e (subset_self s);
+  filled = rw e (sym (set_of_none k (λ (i : ℕ). has (minus s s) i && p i) (λ i. rw (minus_self s, has_none i))));
 }
 
 -- q, the least that is left, is visited, and put in if it passes.
-pub visit_put : {k s left left' r r' q : ℕ} {p : ℕ → Bool} → Visit k s left r p → 0 < left → q ≡ lowest k left → left' ≡ minus left (only (lowest k left))
+pub visit_put : {k s left left' r r' q : ℕ} {p : ℕ → Bool} → Visit k s left r p → Takes k left q left'
     → r' ≡ with_if (p q) q r → Visit k s left' r' p
-visit_put {k} {s} {left} {left'} {r} {r'} {q} {p} v h eq el er = record {
-  below = rw el (minus_lt k left (only (lowest k left)) v.below);
-  within = rw el (subset_step left s (only (lowest k left)) v.within);
+visit_put {k} {s} {left} {left'} {r} {r'} {q} {p} v t er = record {
+  below = rw t.rest (minus_lt k left (only (lowest k left)) v.below);
+  within = rw t.rest (subset_step left s (only (lowest k left)) v.within);
   filled =
       er ∙ ap (with_if (p q) q) v.filled
-      ∙ rw (el, eq) (sym (sift_step k left s (lowest k left) p (lowest_lt k left h v.below) v.within (lowest_has k left h v.below)));
+      ∙ rw (t.rest, t.least) (sym (sift_step k left s (lowest k left) p (lowest_lt k left t.some v.below) v.within (lowest_has k left t.some v.below)));
 }
 
 -- It passes.
-pub visit_yes : {k s left left' r r' q : ℕ} {p : ℕ → Bool} → Visit k s left r p → 0 < left → q ≡ lowest k left → left' ≡ minus left (only (lowest k left))
+pub visit_yes : {k s left left' r r' q : ℕ} {p : ℕ → Bool} → Visit k s left r p → Takes k left q left'
     → p q ≡ true → r' ≡ union r (only q) → Visit k s left' r' p
 unfolding when puts
-visit_yes {r = r} {q = q} v h eq el y er = visit_put v h eq el (er ∙ ap (λ (b : Bool). with_if b q r) (sym y))
+visit_yes {r = r} {q = q} v t y er = visit_put v t (er ∙ ap (λ (b : Bool). with_if b q r) (sym y))
 
 -- It does not.
-pub visit_no : {k s left left' r q : ℕ} {p : ℕ → Bool} → Visit k s left r p → 0 < left → q ≡ lowest k left → left' ≡ minus left (only (lowest k left))
+pub visit_no : {k s left left' r q : ℕ} {p : ℕ → Bool} → Visit k s left r p → Takes k left q left'
     → p q ≡ false → Visit k s left' r p
 unfolding when puts
-visit_no {r = r} {q = q} v h eq el y = visit_put v h eq el (ap (λ (b : Bool). with_if b q r) (sym y))
+visit_no {r = r} {q = q} v t y = visit_put v t (ap (λ (b : Bool). with_if b q r) (sym y))
 
 -- What is in r are numbers of k bits.
 pub visit_lt : {k s left r : ℕ} {p : ℕ → Bool} → Visit k s left r p → r < 2 ^ k

@@ -1,8 +1,0 @@
--- `sets::has64` meets its contract. Assumes nothing.
-use borrow.Author.Rules.{rules}
-use Rattle.sets.specs.Set.{has}
-use Rattle.sets.proofs.has64.Goals as goal
-
-pub returns : goal.returns
-unfolding has
-returns c = search rules

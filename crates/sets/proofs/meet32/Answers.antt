@@ -1,8 +1,0 @@
--- `sets::meet32` meets its contract. Assumes nothing.
-use borrow.Author.Rules.{rules}
-use Rattle.sets.specs.Set.{meet}
-use Rattle.sets.proofs.meet32.Goals as goal
-
-pub returns : goal.returns
-unfolding meet
-returns c = search rules

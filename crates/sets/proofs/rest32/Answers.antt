@@ -1,7 +1,0 @@
--- `sets::rest32` meets its contract. Assumes nothing.
-use borrow.Author.Rules.{rules}
-use Rattle.sets.proofs.laws.Lowest.{and_pred, and_pred_lt}
-use Rattle.sets.proofs.rest32.Goals as goal
-
-pub returns : goal.returns
-returns c = (and_pred 32 _ (search rules) (search rules), and_pred_lt 32 _ (search rules) (search rules))

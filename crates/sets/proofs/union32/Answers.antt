@@ -1,8 +1,0 @@
--- `sets::union32` meets its contract. Assumes nothing.
-use borrow.Author.Rules.{rules}
-use Rattle.sets.specs.Set.{union}
-use Rattle.sets.proofs.union32.Goals as goal
-
-pub returns : goal.returns
-unfolding union
-returns c = search rules

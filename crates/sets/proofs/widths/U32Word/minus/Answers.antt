@@ -1,0 +1,6 @@
+use Rattle.std.proofs.Common.{rules}
+use Rattle.sets.proofs.Words.{and_not}
+use Rattle.sets.proofs.widths.U32Word.minus.Goals as goal
+
+pub returns : goal.returns
+returns c = and_not 32 _ _ (search rules) (search rules)

@@ -1,7 +1,0 @@
--- `sets::without64` meets its contract. Assumes nothing.
-use borrow.Author.Rules.{rules}
-use Rattle.sets.proofs.Words.{and_not_shl}
-use Rattle.sets.proofs.without64.Goals as goal
-
-pub returns : goal.returns
-returns c = and_not_shl 64 _ _ (search rules) (search rules)

@@ -16,51 +16,42 @@ ghost use Rattle.broadcastnet.specs.Commit.{together, without, image_net};
 use network::Network;
 
 // The messages that are pending at any peer.
-pub fn underway(pending: [u64; 32]) -> u64
-    ensures { result ≡ together 32 pending }
+#[tactic(auto, unfolding(crate::specs::Commit::together))]
+pub fn underway(pending: &[u64; 32]) -> u64
+    ensures { result ≡ together 32 pending.now }
 {
     let mut w: u64 = 0;
-    let mut p: usize = 0;
-    while p < 32 {
-        w = sets::union64(w, pending[p]);
-        p += 1;
+    for had in pending {
+        w = sets::union64(w, *had);
     }
     w
 }
 
 // Each set without the messages of w.
-pub fn settled(seen: [u64; 32], w: u64) -> [u64; 32]
-    ensures { result ≡ without w seen }
+#[tactic(auto, using(lists::specs::laws::Tab::filled_none, lists::specs::laws::Tab::filled_more, crate::proofs::laws::CommitLaws::without_filled))]
+pub fn settled(seen: &[u64; 32], w: u64) -> [u64; 32]
+    ensures { result ≡ without w seen.now }
 {
-    let mut r = [0u64; 32];
-    let mut q: usize = 0;
-    while q < 32 {
-        r[q] = sets::minus64(seen[q], w);
-        q += 1;
+    let mut r = [0; 32];
+    for (q, had) in seen.iter().enumerate() {
+        r[q] = sets::minus64(*had, w);
     }
     r
 }
 
 // "The image keeps presence, pubs and subs, and from every seen set removes each message pending at any peer"; "neighbours,
 // pending and known subscribers are zero".
-pub fn image(n: Network) -> Network
-    ensures { result ≡ image_net n }
+#[tactic(auto, using(crate::proofs::laws::CommitLaws::image_net_made))]
+pub fn image(n: &Network) -> Network
+    ensures { result ≡ image_net n.now }
 {
-    let pubs = n.pubs;
-    let subs = n.subs;
-    let pending = n.pending;
-    let had = n.seen;
-    let seen = settled(had, underway(pending));
-    let neighbours = [0u32; 32];
-    let none = [0u64; 32];
-    let known = [0u32; 1024];
     Network {
         present: n.present,
-        pubs: pubs,
-        subs: subs,
-        neighbours: neighbours,
-        pending: none,
-        seen: seen,
-        known: known,
+        pubs: n.pubs,
+        subs: n.subs,
+        neighbours: [0; 32],
+        pending: [0; 32],
+        seen: settled(&n.seen, underway(&n.pending)),
+        known: [0; 1024],
     }
 }

@@ -1,19 +1,28 @@
 -- What stands at a place of the event bytes, in 01's numbers and values (document 01, "Records", "Events"). Assumes nothing.
 --   "An event read is one of seven kinds and carries only its own fields. Fields that a kind doesn't use must be zero.
 --   Codes 7 to 255 are refused."
-use Rattle.std.specs.Prelude.{ℕ, ◌+◌, ◌*◌, ◌/◌, List, Bool, true, false, ◌&&◌, cond, length, get_or, ltb, eqb}
+use Rattle.std.specs.Prelude.{ℕ, ◌+◌, ◌*◌, ◌/◌, List, Bool, true, false, ◌&&◌, cond, length, get_or, ltb, eqb, Option, None, Some, Result, Ok, Err}
 use Rattle.endian.specs.Le.{le}
+use Rattle.network.specs.declared.refusal.Refusal.{Refusal}
+use Rattle.network.specs.declared.refusal.Refusal.TheVariants.{UnknownCode, Unfit}
+use Rattle.network.specs.Refusal.{number_of}
 use Rattle.network.specs.Network.{peer, message}
 use Rattle.events.specs.declared.Fields.{Fields}
 use Rattle.events.specs.declared.Joining.{Joining}
 use Rattle.events.specs.declared.Event.{Event}
 use Rattle.events.specs.declared.Event.TheVariants.{Skip, Produce, Forward, Subscribe, Unsubscribe, Leave, Join}
-use Rattle.events.specs.declared.Read.{Read}
-use Rattle.events.specs.declared.Read.TheVariants.{Taken, End, Unknown, Unfit}
-use Rattle.events.specs.declared.Reading.{Reading}
 
--- A reading in 01's numbers and values: a record was there, and its event is taken (0) or refused by a number; or no record
--- was there (0). Where no event is taken it is skip.
+-- What reading answers: an event or its refusal, or no record any more.
+abbrev pub Read : Type 0
+Read = Option (Result Event Refusal)
+
+-- A reading in 01's numbers and values: whether a record was there, its number, and its event. A record was there, and its event
+-- is taken (0) or refused by a number; or no record was there (0). Where no event is taken it is skip.
+pub record Reading : Type 0 where
+  pub found : Bool
+  pub number : ℕ
+  pub event : Event
+
 abbrev pub taken : Event → Reading
 taken e = record { found = true; number = 0; event = e }
 
@@ -23,17 +32,16 @@ refused number = record { found = true; number = number; event = Skip }
 abbrev pub ended : Reading
 ended = record { found = false; number = 0; event = Skip }
 
--- 01's number and values for each case of the enum that reading answers: 6 is an unknown code, 7 what does not fit. The
--- promises of reading are stated through this.
+-- 01's number and values for each case of what reading answers: a refusal has its number (6 is an unknown code, 7 what does not
+-- fit). The promises of reading are stated through this.
 unfoldable pub reading_of : Read → Reading
-reading_of (Taken e) = taken e
-reading_of End = ended
-reading_of Unknown = refused 6
-reading_of Unfit = refused 7
+reading_of (Some (Ok e)) = taken e
+reading_of (Some (Err refusal)) = refused (number_of refusal)
+reading_of None = ended
 
--- the case that a reading is of
+-- the case that a reading of bytes is of: it is taken, or refused by 6 or 7, or ended
 unfoldable pub read_of : Reading → Read
-read_of r = cond r.found (cond (eqb r.number 0) (Taken r.event) (cond (eqb r.number 6) Unknown Unfit)) End
+read_of r = cond r.found (Some (cond (eqb r.number 0) (Ok r.event) (Err (cond (eqb r.number 6) UnknownCode Unfit)))) None
 
 -- "Unused byte not zero": the words from byte 8 on are zero; all three are; message and byte 3 are.
 unfoldable pub no_more : Fields → Bool

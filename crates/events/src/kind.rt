@@ -1,5 +1,5 @@
 // The kind of an event, without its fields: what an answer says of the event that it answers (specs/Kind.antt).
-#[derive(Clone, Copy)]
+#[derive(Clone, Copy, Debug, PartialEq, Eq)]
 pub enum Kind {
     Skip,
     Produce,

@@ -13,6 +13,7 @@ use Rattle.sets.proofs.laws.Bools.{bool2, eqb_same}
 use Rattle.sets.proofs.laws.Members.{has_union, has_minus, has_none, has_only, has_with, has_with_other, ext}
 use Rattle.sets.proofs.laws.Build.{has_sifted}
 use Rattle.sets.proofs.laws.Lowest.{least_narrow, rest_narrow}
+pub use Rattle.sets.proofs.laws.Sizes.{size_rest}
 use Rattle.sets.proofs.laws.Visits.{Visit, visit_put, visit_done}
 use Rattle.lists.specs.Edit.{edit}
 use Rattle.network.specs.declared.Peer.{Peer}
@@ -48,6 +49,13 @@ lacking_more {r = r} {q = q} {b = b} pending seen m v h eq el ew eb er =
 pub lacking_done : {s left r : ℕ} (pending seen : List ℕ) (m : ℕ) → Visit 32 s left r (lacks pending seen m) → left ≡ 0 → s < 2 ^ 32
     → r ≡ minus s (sift 32 s (holding pending seen m))
 lacking_done {s} pending seen m v e h = visit_done v e ∙ lacks_left s m pending seen h
+
+-- ---- what the loops of src/arrays.rt name: the least of those left is a peer, and one fewer is left without it
+
+pub lowest_narrow : (w : ℕ) → 0 < w → w < 2 ^ 32 → lowest 64 w < 32
+lowest_narrow w p h = (least_narrow {w = w} p h refl).1
+
+pub ruleset leasts = (lowest_narrow, size_rest)
 
 -- ---- rows of `known`: the word of topic t at peer q stands at q * 32 + t
 

@@ -1,54 +1,70 @@
--- What a function of src/turns.rt promises. Assumes nothing.
-use mathlib.Core.Path.{◌≡◌, refl, sym, ap, ap₂, ◌∙◌, subst}
+-- What one event comes to, refused or accepted, as src/turns.rt answers. Assumes nothing.
+use mathlib.Core.Path.{◌≡◌, refl, sym, ap}
 use Prim.Native.Nat.{ℕ, zero, suc, ◌<◌}
 use native.Mathlib.Omega.{arith}
 use Rattle.network.specs.declared.Network.{Network}
 use Rattle.network.specs.declared.Table.{Table}
+use Rattle.network.specs.declared.refusal.Refusal.{Refusal}
+use Rattle.network.specs.declared.refusal.Refusal.TheVariants.{StateLength, TableLength, EventsLength, BadRow, UnknownCode, Unfit, PeerAbsent, PeerPresent, NotOrigin, NotPublished, NotNew, NotPending, StillPending, NamesItself, NamesAbsent, InputLength, ImageLength, BadHead, AbsentNotEmpty, OwnNeighbour, NeighbourAbsent, NotListedBack, KnownWrong, PendingSeen}
+use Rattle.network.specs.Refusal.{number_of}
 use Rattle.events.specs.declared.Event.{Event}
-use Rattle.events.specs.declared.kind.Kind.{Kind}
 use Rattle.events.specs.Kind.{kind_of}
-use Rattle.events.specs.Fits.{EventFits}
-use Rattle.floodnet.specs.declared.Turned.{Turned}
 use Rattle.floodnet.specs.Step.{refusal, effect, if_accepted, after, receivers_of, turned, turned_of}
-use Rattle.floodnet.specs.Lent.{Stepped}
 
--- the two ways to answer
-pub turned_refused : (k : ℕ) (kind : Kind) (to : ℕ) → 0 < k → record { number = k; kind = kind; receivers = 0 } ≡ turned k kind to
-unfolding turned
-turned_refused zero kind to h = absurd (omega arith)
-turned_refused (suc k) kind to h = refl
+-- no refusal has the number 0
+pub number_some : (r : Refusal) → 0 < number_of r
+number_some StateLength = omega arith
+number_some TableLength = omega arith
+number_some EventsLength = omega arith
+number_some BadRow = omega arith
+number_some UnknownCode = omega arith
+number_some Unfit = omega arith
+number_some PeerAbsent = omega arith
+number_some PeerPresent = omega arith
+number_some NotOrigin = omega arith
+number_some NotPublished = omega arith
+number_some NotNew = omega arith
+number_some NotPending = omega arith
+number_some StillPending = omega arith
+number_some NamesItself = omega arith
+number_some NamesAbsent = omega arith
+number_some InputLength = omega arith
+number_some ImageLength = omega arith
+number_some BadHead = omega arith
+number_some AbsentNotEmpty = omega arith
+number_some OwnNeighbour = omega arith
+number_some NeighbourAbsent = omega arith
+number_some NotListedBack = omega arith
+number_some KnownWrong = omega arith
+number_some PendingSeen = omega arith
 
 -- a refused event changes nothing
-pub stepped_refused : {n : Network} {b : Table} {e : Event} {r : Turned} (k : ℕ) → k ≡ refusal n b e → (k ≡ 0 → ⊥) → ((to : ℕ) → r ≡ turned k (kind_of e) to) → Stepped n n b e r
-unfolding after turned_of if_accepted turned
-stepped_refused {n} {b} {e} {r} k h z a = record {
-  state = go k z ∙ ap (λ (x : ℕ). if_accepted x (effect n b e) n) h;
-  answer = a (receivers_of n b e) ∙ ap (λ (x : ℕ). turned x (kind_of e) (receivers_of n b e)) h;
-}
+pub after_refused : (n : Network) (b : Table) (e : Event) → 0 < refusal n b e → after n b e ≡ n
+unfolding after if_accepted
+after_refused n b e h = go (refusal n b e) h
   where
-    go : (k : ℕ) → (k ≡ 0 → ⊥) → n ≡ if_accepted k (effect n b e) n
-    go zero z = absurd (z refl)
-    go (suc k) z = refl
+    go : (k : ℕ) → 0 < k → if_accepted k (effect n b e) n ≡ n
+    go zero h = absurd (omega arith)
+    go (suc k) h = refl
 
--- an accepted event took effect
-pub stepped_done : {n n' : Network} {b : Table} {e : Event} {r : Turned} {to : ℕ} (k : ℕ) → k ≡ refusal n b e → k ≡ 0 → n' ≡ effect n b e → r ≡ turned 0 (kind_of e) to
-    → to ≡ receivers_of n b e → Stepped n n' b e r
-unfolding after turned_of if_accepted turned
-stepped_done {n} {n'} {b} {e} k h z s a c = record {
-  state = s ∙ ap (λ (x : ℕ). if_accepted x (effect n b e) n) (sym z ∙ h);
-  answer = a ∙ ap₂ (λ (x y : ℕ). turned x (kind_of e) y) (sym z ∙ h) c;
-}
-
--- ---- the event is of the kind that was matched
-
--- it fits
-pub fits_as : {e e₀ : Event} → e ≡ e₀ → EventFits e → EventFits e₀
-fits_as {e} {e₀} h x = subst EventFits h x
-
--- its step
-pub stepped_as : {f g : Network → Network} {b : Table} {e e₀ : Event} {r : Turned} → e ≡ e₀ → ((n : Network) → Stepped (f n) (g n) b e₀ r)
-    → ((n : Network) → g n ≡ after (f n) b e) × ((n : Network) → r ≡ turned_of (f n) b e)
-stepped_as {f} {g} {b} {e} {r = r} h x = (λ n. (go n).state, λ n. (go n).answer)
+-- and has no receivers
+pub turned_refused : (n : Network) (b : Table) (e : Event) → 0 < refusal n b e → turned_of n b e ≡ record { number = refusal n b e; kind = kind_of e; receivers = 0 }
+unfolding turned_of turned
+turned_refused n b e h = go (refusal n b e) h
   where
-    go : (n : Network) → Stepped (f n) (g n) b e r
-    go n = subst (λ (y : Event). Stepped (f n) (g n) b y r) (sym h) (x n)
+    go : (k : ℕ) → 0 < k → turned k (kind_of e) (receivers_of n b e) ≡ record { number = k; kind = kind_of e; receivers = 0 }
+    go zero h = absurd (omega arith)
+    go (suc k) h = refl
+
+-- an accepted event takes effect
+pub after_done : (n : Network) (b : Table) (e : Event) → 0 ≡ refusal n b e → after n b e ≡ effect n b e
+unfolding after if_accepted
+after_done n b e h = ap (λ (k : ℕ). if_accepted k (effect n b e) n) (sym h)
+
+-- and has its receivers
+pub turned_done : (n : Network) (b : Table) (e : Event) → 0 ≡ refusal n b e → turned_of n b e ≡ record { number = 0; kind = kind_of e; receivers = receivers_of n b e }
+unfolding turned_of turned
+turned_done n b e h = ap (λ (k : ℕ). turned k (kind_of e) (receivers_of n b e)) (sym h)
+
+-- what src/turns.rt names
+pub ruleset steps = (number_some, after_refused, turned_refused, after_done, turned_done)

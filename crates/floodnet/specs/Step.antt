@@ -1,8 +1,10 @@
 -- One event on a network, as document 01's table has it: by what number it is refused, what it does, the network after it, and
 -- what is answered. Assumes nothing.
-use Rattle.std.specs.Prelude.{ℕ, zero, suc}
+use Rattle.std.specs.Prelude.{◌≡◌, ℕ, zero, suc, Result, Ok, Err}
 use Rattle.network.specs.declared.Network.{Network}
 use Rattle.network.specs.declared.Table.{Table}
+use Rattle.network.specs.declared.refusal.Refusal.{Refusal}
+use Rattle.network.specs.Refusal.{number}
 use Rattle.events.specs.declared.Event.{Event}
 use Rattle.events.specs.declared.Event.TheVariants.{Skip, Produce, Forward, Subscribe, Unsubscribe, Leave, Join}
 use Rattle.events.specs.declared.kind.Kind.{Kind}
@@ -53,10 +55,33 @@ receivers_of n b (Unsubscribe p topics) = 0
 receivers_of n b (Leave p) = 0
 receivers_of n b (Join p j) = 0
 
--- the answer: the number, the kind of the event, and its receivers; a refused event has none
-unfoldable pub turned : ℕ → Kind → ℕ → Turned
+-- the answer in 01's numbers: the number, the kind of the event, and its receivers
+pub record Turn : Type 0 where
+  pub number : ℕ
+  pub kind : Kind
+  pub receivers : ℕ
+
+-- a refused event has no receivers
+unfoldable pub turned : ℕ → Kind → ℕ → Turn
 turned zero kind to = record { number = 0; kind = kind; receivers = to }
 turned (suc k) kind to = record { number = suc k; kind = kind; receivers = 0 }
 
-unfoldable pub turned_of : Network → Table → Event → Turned
+unfoldable pub turned_of : Network → Table → Event → Turn
 turned_of n b e = turned (refusal n b e) (kind_of e) (receivers_of n b e)
+
+-- what the code answers, in 01's numbers
+abbrev pub received : Result ℕ Refusal → ℕ
+received (Ok to) = to
+received (Err refusal) = 0
+
+abbrev pub turn_of : Turned → Turn
+turn_of r = record { number = number r.outcome; kind = r.kind; receivers = received r.outcome }
+
+-- the answer to e with this outcome
+abbrev pub answer_to : Event → Result ℕ Refusal → Turned
+answer_to e outcome = record { kind = kind_of e; outcome = outcome }
+
+-- the event e made n' of n and was answered by r
+pub record Stepped (n n' : Network) (b : Table) (e : Event) (r : Turned) : Type 0 where
+  pub state : n' ≡ after n b e
+  pub answer : turn_of r ≡ turned_of n b e

@@ -2,6 +2,8 @@
 // loops' turns are laws of the crates below: `Visit` (sets, proofs/laws/Visits.antt) for a set that is found, `Visiting` (lists,
 // specs/laws/Visit.antt) for an array that is changed. Each loop's measure is the number of members left, so it has as many turns as members.
 // A forward keeps those left in a word of 64 bits, from which some machines take the least in a step less (docs/BENCH.md).
+#![tactic(auto, using(crate::proofs::CodeArrays::leasts))]
+
 ghost use Rattle.std.specs.Prelude.{◌≡◌, ◌<◌};
 ghost use Rattle.sets.specs.Set.{has, minus, only, when, puts, strikes, with_if, sift};
 ghost use Rattle.sets.specs.Rising.{members};

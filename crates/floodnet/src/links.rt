@@ -1,170 +1,103 @@
-// What subscribe, unsubscribe, leave and join do, on the arrays that they touch (specs/Topics.antt, specs/Links.antt). A
-// contract is an equation of every network that has these arrays.
+// What subscribe, unsubscribe, leave and join do to the network (specs/Topics.antt, specs/Links.antt).
 ghost use Rattle.std.specs.Prelude.{◌≡◌, ◌<◌};
-ghost use Rattle.network.specs.declared.Network.{Network};
-ghost use Rattle.network.specs.Network.{with_neighbours, with_known, with_all};
 ghost use Rattle.floodnet.specs.Topics.{subscribed_to, unsubscribed_from};
 ghost use Rattle.floodnet.specs.Links.{link_up, link_down, cleared, placed, left, joined};
-ghost use Rattle.floodnet.specs.Lent.{with_links, with_topics};
 
 use super::{arrays, rows};
-use network::Peer;
+use network::{Network, Peer};
 
 // "Topics join subs; neighbours' records follow."
-pub(crate) fn subscribe(
-    subs: &mut [u32; 32],
-    neighbours: &[u32; 32],
-    known: &mut [u32; 1024],
-    p: Peer,
-    topics: u32,
-)
+#[tactic(auto, unfolding(crate::specs::Topics::subscribed_to))]
+pub(crate) fn subscribe(n: &mut Network, p: Peer, topics: u32)
     requires { p.0 < 32 }
-    ensures { (n : Network) → with_links n subs.new neighbours.now known.new ≡ subscribed_to
-        (with_links n subs.old neighbours.now known.old) p topics }
+    ensures { n.new ≡ subscribed_to n.old p topics }
 {
     let i = p.0 as usize;
-    subs[i] = sets::union32(subs[i], topics);
-    rows::note_all(known, neighbours[i], topics, p);
+    n.subs[i] = sets::union32(n.subs[i], topics);
+    rows::note_all(&mut n.known, n.neighbours[i], topics, p);
 }
 
 // "Topics leave subs; neighbours' records follow."
-pub(crate) fn unsubscribe(
-    subs: &mut [u32; 32],
-    neighbours: &[u32; 32],
-    known: &mut [u32; 1024],
-    p: Peer,
-    topics: u32,
-)
+#[tactic(auto, unfolding(crate::specs::Topics::unsubscribed_from))]
+pub(crate) fn unsubscribe(n: &mut Network, p: Peer, topics: u32)
     requires { p.0 < 32 }
-    ensures { (n : Network) → with_links n subs.new neighbours.now known.new ≡ unsubscribed_from
-        (with_links n subs.old neighbours.now known.old) p topics }
+    ensures { n.new ≡ unsubscribed_from n.old p topics }
 {
     let i = p.0 as usize;
-    subs[i] = sets::minus32(subs[i], topics);
-    rows::strike_all(known, neighbours[i], topics, p);
+    n.subs[i] = sets::minus32(n.subs[i], topics);
+    rows::strike_all(&mut n.known, n.neighbours[i], topics, p);
 }
 
 // Both sides record: p and each of `who` list each other, and know each other for their topics.
-pub(crate) fn link_up(
-    neighbours: &mut [u32; 32],
-    subs: &[u32; 32],
-    known: &mut [u32; 1024],
-    p: Peer,
-    who: u32,
-)
+fn link_up(n: &mut Network, p: Peer, who: u32)
     requires { p.0 < 32 }
-    ensures { (n : Network) → with_links n subs.now neighbours.new known.new ≡ link_up
-        (with_links n subs.now neighbours.old known.old) p who }
+    ensures { n.new ≡ link_up n.old p who }
 {
     let i = p.0 as usize;
-    neighbours[i] = sets::union32(neighbours[i], who);
-    arrays::mark(neighbours, who, p);
-    rows::note_all(known, who, subs[i], p);
-    rows::learn(known, p, subs, who);
+    n.neighbours[i] = sets::union32(n.neighbours[i], who);
+    arrays::mark(&mut n.neighbours, who, p);
+    rows::note_all(&mut n.known, who, n.subs[i], p);
+    rows::learn(&mut n.known, p, &n.subs, who);
 }
 
 // Both sides forget: p and each of `who` neither list nor know each other.
-pub(crate) fn link_down(neighbours: &mut [u32; 32], known: &mut [u32; 1024], p: Peer, who: u32)
+fn link_down(n: &mut Network, p: Peer, who: u32)
     requires { p.0 < 32 }
-    ensures { (n : Network) → with_known (with_neighbours n neighbours.new) known.new ≡ link_down
-        (with_known (with_neighbours n neighbours.old) known.old) p who }
+    ensures { n.new ≡ link_down n.old p who }
 {
     let i = p.0 as usize;
-    neighbours[i] = sets::minus32(neighbours[i], who);
-    arrays::unmark(neighbours, who, p);
-    rows::drop_all(known, who, p);
-    rows::row_minus(known, p, who);
+    n.neighbours[i] = sets::minus32(n.neighbours[i], who);
+    arrays::unmark(&mut n.neighbours, who, p);
+    rows::drop_all(&mut n.known, who, p);
+    rows::row_minus(&mut n.known, p, who);
 }
 
 // "Record becomes zero."
-pub(crate) fn clear(
-    present: &mut u32,
-    pubs: &mut [u32; 32],
-    subs: &mut [u32; 32],
-    neighbours: &mut [u32; 32],
-    pending: &mut [u64; 32],
-    seen: &mut [u64; 32],
-    known: &mut [u32; 1024],
-    p: Peer,
-)
+#[tactic(auto, unfolding(crate::specs::Links::cleared))]
+fn clear(n: &mut Network, p: Peer)
     requires { p.0 < 32 }
-    ensures { (n : Network) → with_all n present.new pubs.new subs.new neighbours.new pending.new
-        seen.new known.new ≡ cleared
-        (with_all n present.old pubs.old subs.old neighbours.old pending.old
-        seen.old known.old) p }
+    ensures { n.new ≡ cleared n.old p }
 {
     let i = p.0 as usize;
-    *present = sets::without32(*present, p.0 as u32);
-    pubs[i] = 0;
-    subs[i] = 0;
-    neighbours[i] = 0;
-    pending[i] = 0;
-    seen[i] = 0;
-    rows::row_clear(known, p);
+    n.present = sets::without32(n.present, p.0 as u32);
+    n.pubs[i] = 0;
+    n.subs[i] = 0;
+    n.neighbours[i] = 0;
+    n.pending[i] = 0;
+    n.seen[i] = 0;
+    rows::row_clear(&mut n.known, p);
 }
 
 // p is present, with these topics.
-pub(crate) fn place(
-    present: &mut u32,
-    pubs: &mut [u32; 32],
-    subs: &mut [u32; 32],
-    p: Peer,
-    s: u32,
-    b: u32,
-)
+#[tactic(auto, unfolding(crate::specs::Links::placed))]
+fn place(n: &mut Network, p: Peer, subs: u32, pubs: u32)
     requires { p.0 < 32 }
-    ensures { (n : Network) → with_topics n present.new pubs.new subs.new ≡ placed
-        (with_topics n present.old pubs.old subs.old) p s b }
+    ensures { n.new ≡ placed n.old p subs pubs }
 {
     let i = p.0 as usize;
-    *present = sets::with32(*present, p.0 as u32);
-    pubs[i] = b;
-    subs[i] = s;
+    n.present = sets::with32(n.present, p.0 as u32);
+    n.pubs[i] = pubs;
+    n.subs[i] = subs;
 }
 
 // "Record becomes zero; neighbours drop the peer and its subscriptions."
-pub(crate) fn leave(
-    present: &mut u32,
-    pubs: &mut [u32; 32],
-    subs: &mut [u32; 32],
-    neighbours: &mut [u32; 32],
-    pending: &mut [u64; 32],
-    seen: &mut [u64; 32],
-    known: &mut [u32; 1024],
-    p: Peer,
-)
+#[tactic(auto, unfolding(crate::specs::Links::left))]
+pub(crate) fn leave(n: &mut Network, p: Peer)
     requires { p.0 < 32 }
-    ensures { (n : Network) → with_all n present.new pubs.new subs.new neighbours.new pending.new
-        seen.new known.new ≡ left
-        (with_all n present.old pubs.old subs.old neighbours.old pending.old
-        seen.old known.old) p }
+    ensures { n.new ≡ left n.old p }
 {
-    let who = neighbours[p.0 as usize];
-    link_down(neighbours, known, p, who);
-    clear(present, pubs, subs, neighbours, pending, seen, known, p);
+    let who = n.neighbours[p.0 as usize];
+    link_down(n, p, who);
+    clear(n, p);
 }
 
 // "Record made with nothing pending or seen; both sides record link and subscriptions."
-pub(crate) fn join(
-    present: &mut u32,
-    pubs: &mut [u32; 32],
-    subs: &mut [u32; 32],
-    neighbours: &mut [u32; 32],
-    pending: &mut [u64; 32],
-    seen: &mut [u64; 32],
-    known: &mut [u32; 1024],
-    p: Peer,
-    s: u32,
-    b: u32,
-    who: u32,
-)
+#[tactic(auto, unfolding(crate::specs::Links::joined))]
+pub(crate) fn join(n: &mut Network, p: Peer, subs: u32, pubs: u32, who: u32)
     requires { p.0 < 32 }
-    ensures { (n : Network) → with_all n present.new pubs.new subs.new neighbours.new pending.new
-        seen.new known.new ≡ joined
-        (with_all n present.old pubs.old subs.old neighbours.old pending.old
-        seen.old known.old) p s b who }
+    ensures { n.new ≡ joined n.old p subs pubs who }
 {
-    clear(present, pubs, subs, neighbours, pending, seen, known, p);
-    place(present, pubs, subs, p, s, b);
-    link_up(neighbours, subs, known, p, who);
+    clear(n, p);
+    place(n, p, subs, pubs);
+    link_up(n, p, who);
 }

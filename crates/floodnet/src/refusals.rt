@@ -1,98 +1,95 @@
-// What the events ask (specs/Refusals.antt): the number of the first condition that fails, or 0. Each takes the arrays that
-// its conditions look at, and its contract speaks of every network that has these.
-ghost use Rattle.std.specs.Prelude.{◌≡◌, ◌<◌, get_or};
-ghost use Rattle.network.specs.declared.Network.{Network};
-ghost use Rattle.network.specs.Network.{with_present, with_pubs, with_pending, with_seen};
+// What the events ask (specs/Refusals.antt): the first condition that fails refuses the event.
+#![tactic(auto, using(crate::proofs::CodeRefusals::needs), unfolding(crate::specs::Refusals::refusal_produce, crate::specs::Refusals::refusal_forward, crate::specs::Refusals::refusal_topics, crate::specs::Refusals::refusal_leave, crate::specs::Refusals::refusal_join))]
+
+ghost use Rattle.std.specs.Prelude.{◌≡◌, ◌<◌};
+ghost use Rattle.network.specs.Network.{topic_of};
+ghost use Rattle.network.specs.Refusal.{number};
+ghost use Rattle.floodnet.specs.Produce.{is_new};
 ghost use Rattle.floodnet.specs.Refusals.{refusal_produce, refusal_forward, refusal_topics, refusal_leave, refusal_join};
-ghost use Rattle.network.specs.Network.{table};
 
 use super::arrays;
-use network::{Message, Peer};
+use network::{Message, Network, Peer, Refusal, Table};
+
+// "Message m is new when no present peer has it pending or seen (004)."
+fn is_new(n: &Network, m: Message) -> bool
+    requires { m.0 < 64 }
+    ensures { result ≡ is_new n.now m }
+{
+    arrays::lacking(&n.pending, &n.seen, n.present, m) == n.present
+}
 
 // Produce: 8, 10, 11, 12.
-pub(crate) fn of_produce(
-    present: u32,
-    pubs: &[u32; 32],
-    pending: &[u64; 32],
-    seen: &[u64; 32],
-    topics: &[u8; 64],
-    origins: &[u8; 64],
-    p: Peer,
-    m: Message,
-) -> u8
-    requires { (p.0 < 32) × (m.0 < 64) × (get_or topics.now m.0 0 < 32) }
-    ensures { (n : Network) → result ≡ refusal_produce
-        (with_present (with_pubs (with_pending (with_seen n seen.now) pending.now) pubs.now) present)
-        (table topics.now origins.now) p m }
+pub(crate) fn of_produce(n: &Network, table: &Table, p: Peer, m: Message) -> Result<(), Refusal>
+    requires { (p.0 < 32) × (m.0 < 64) × ((topic_of table.now m).0 < 32) }
+    ensures { number result ≡ refusal_produce n.now table.now p m }
 {
-    if !sets::has32(present, p.0 as u32) {
-        return 8;
+    if !sets::has32(n.present, p.0 as u32) {
+        return Err(Refusal::PeerAbsent);
     }
-    if origins[m.0 as usize] != p.0 {
-        return 10;
+    if table.origins[m.0 as usize] != p.0 {
+        return Err(Refusal::NotOrigin);
     }
-    let t = network::topic_of(topics, m);
-    if !sets::has32(pubs[p.0 as usize], t.0 as u32) {
-        return 11;
+    if !sets::has32(n.pubs[p.0 as usize], table.topic_of(m).0 as u32) {
+        return Err(Refusal::NotPublished);
     }
-    if arrays::lacking(pending, seen, present, m) != present {
-        return 12;
+    if !is_new(n, m) {
+        return Err(Refusal::NotNew);
     }
-    0
+    Ok(())
 }
 
 // Forward: 8, 13.
-pub(crate) fn of_forward(present: u32, pending: &[u64; 32], p: Peer, m: Message) -> u8
+pub(crate) fn of_forward(n: &Network, p: Peer, m: Message) -> Result<(), Refusal>
     requires { (p.0 < 32) × (m.0 < 64) }
-    ensures { (n : Network) → result ≡ refusal_forward (with_present (with_pending n pending.now) present) p m }
+    ensures { number result ≡ refusal_forward n.now p m }
 {
-    if !sets::has32(present, p.0 as u32) {
-        return 8;
+    if !sets::has32(n.present, p.0 as u32) {
+        return Err(Refusal::PeerAbsent);
     }
-    if !sets::has64(pending[p.0 as usize], m.0 as u32) {
-        return 13;
+    if !sets::has64(n.pending[p.0 as usize], m.0 as u32) {
+        return Err(Refusal::NotPending);
     }
-    0
+    Ok(())
 }
 
 // Subscribe and unsubscribe: 8.
-pub(crate) fn of_topics(present: u32, p: Peer) -> u8
+pub(crate) fn of_topics(n: &Network, p: Peer) -> Result<(), Refusal>
     requires { p.0 < 32 }
-    ensures { (n : Network) → result ≡ refusal_topics (with_present n present) p }
+    ensures { number result ≡ refusal_topics n.now p }
 {
-    if !sets::has32(present, p.0 as u32) {
-        return 8;
+    if !sets::has32(n.present, p.0 as u32) {
+        return Err(Refusal::PeerAbsent);
     }
-    0
+    Ok(())
 }
 
 // Leave: 8, 14.
-pub(crate) fn of_leave(present: u32, pending: &[u64; 32], p: Peer) -> u8
+pub(crate) fn of_leave(n: &Network, p: Peer) -> Result<(), Refusal>
     requires { p.0 < 32 }
-    ensures { (n : Network) → result ≡ refusal_leave (with_present (with_pending n pending.now) present) p }
+    ensures { number result ≡ refusal_leave n.now p }
 {
-    if !sets::has32(present, p.0 as u32) {
-        return 8;
+    if !sets::has32(n.present, p.0 as u32) {
+        return Err(Refusal::PeerAbsent);
     }
-    if pending[p.0 as usize] != 0 {
-        return 14;
+    if n.pending[p.0 as usize] != 0 {
+        return Err(Refusal::StillPending);
     }
-    0
+    Ok(())
 }
 
 // Join: 9, 15, 16.
-pub(crate) fn of_join(present: u32, p: Peer, who: u32) -> u8
+pub(crate) fn of_join(n: &Network, p: Peer, who: u32) -> Result<(), Refusal>
     requires { p.0 < 32 }
-    ensures { (n : Network) → result ≡ refusal_join (with_present n present) p who }
+    ensures { number result ≡ refusal_join n.now p who }
 {
-    if sets::has32(present, p.0 as u32) {
-        return 9;
+    if sets::has32(n.present, p.0 as u32) {
+        return Err(Refusal::PeerPresent);
     }
     if sets::has32(who, p.0 as u32) {
-        return 15;
+        return Err(Refusal::NamesItself);
     }
-    if sets::minus32(who, present) != 0 {
-        return 16;
+    if sets::minus32(who, n.present) != 0 {
+        return Err(Refusal::NamesAbsent);
     }
-    0
+    Ok(())
 }

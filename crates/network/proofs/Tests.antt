@@ -2,7 +2,9 @@
 use mathlib.Core.Path.{◌≡◌, sym, ap, ◌∙◌}
 use mathlib.Core.Bool.{Bool, true, false, not, ◌&&◌, and_comm, and-true, and-false}
 use mathlib.Core.List.{List}
+use Rattle.std.specs.Prelude.{Option, None, Some, is_some, unwrap_or}
 use Prim.Native.Nat.{ℕ, ◌+◌, ◌^◌, ◌≤◌, ◌<◌}
+use native.Mathlib.Omega.{arith}
 use lib.Dec.{eqb}
 use lib.ListN.{get_or}
 use borrow.Author.Tests.{eq-eqb, eqb-true}
@@ -12,7 +14,7 @@ use Rattle.sets.proofs.laws.Build.{set_of_lt, has_set_of, is_set_of}
 use Rattle.sets.specs.Set.{has, meet, minus, set_of, lowest}
 use Rattle.sets.proofs.laws.Bools.{clash, and_or_not, ne_eqb}
 use Rattle.sets.proofs.laws.Least.{lowest_of_le, lowest_of_same, lowest_of_is_all}
-use Rattle.sets.proofs.laws.Lowest.{lowest_lowest_of}
+use Rattle.sets.proofs.laws.Lowest.{lowest_none, lowest_lowest_of}
 use Rattle.sets.specs.Any.{all}
 use Rattle.sets.proofs.laws.Any.{all_yes, all_why, all_more, all_same}
 use Rattle.lists.specs.laws.Tab.{get_or_tab}
@@ -20,8 +22,8 @@ use Rattle.network.specs.declared.Peer.{Peer}
 use Rattle.network.specs.declared.Topic.{Topic}
 use Rattle.network.specs.declared.Network.{Network}
 use Rattle.network.specs.Network.{peer, topic, spot, neighbours_of, known_of, present, linked, subscribed}
-use Rattle.network.specs.Rules.{near_at, back_at, known_at, known_right, lowest_wrong}
-use Rattle.network.specs.Tests.{subscribers_of, row_empty, near_absent, list_back, same_at, row_known}
+use Rattle.network.specs.Rules.{own_right, near_at, near_right, back_at, back_right, known_at, known_right, lowest_wrong}
+use Rattle.network.specs.Tests.{Found, subscribers_of, row_empty, near_absent, list_back, same_at, row_known}
 
 -- a loop that asks all of them: r says whether all so far passed
 pub all_keep : (n : ℕ) (f : ℕ → Bool) {r : Bool} → r ≡ all n f → f n ≡ true → r ≡ all (n + 1) f
@@ -34,34 +36,23 @@ all_lost n f h = sym (all_more n f ∙ ap (λ (b : Bool). all n f && b) h ∙ an
 pub known_at_lem : (known subscribers : List ℕ) (listed : ℕ) (p : Peer) (t : ℕ) {i w : ℕ} → i ≡ spot p (topic t) → w ≡ meet (get_or subscribers t 0) listed → eqb (get_or known i 0) w ≡ same_at known subscribers listed p t
 known_at_lem known subscribers listed p t ei ew = rw (ei, ew)
 
--- ---- each is its rule: the lowest at fault is the rule's, and 32 where the rule is kept
+-- ---- each is its rule: the lowest at fault is the rule's, and there is none where the rule is kept
 
-pub rule_kept : (right : ℕ → Bool) {l r : ℕ} → l ≡ lowest_wrong right → r ≡ l → r ≡ 32 → all 32 right ≡ true
+rule_found : (right : ℕ → Bool) {l : ℕ} (o : Option ℕ) → l ≡ lowest_wrong right → Found 32 o l → all 32 right ≡ not (is_some o)
 unfolding lowest_wrong
-rule_kept right h e z = sym (lowest_of_is_all 32 right) ∙ eq-eqb _ 32 (sym h ∙ sym e ∙ z)
-
-pub rule_broken : (right : ℕ → Bool) {l r : ℕ} → l ≡ lowest_wrong right → r ≡ l → (r ≡ 32 → ⊥) → all 32 right ≡ false
-unfolding lowest_wrong
-rule_broken right h e z = sym (lowest_of_is_all 32 right) ∙ ne_eqb λ d. z (e ∙ h ∙ d)
-
--- it is at most 32, so that it fits a byte
-pub wrong_le : (right : ℕ → Bool) {l r : ℕ} → l ≡ lowest_wrong right → r ≡ l → r ≤ 32
-unfolding lowest_wrong
-wrong_le right h e = rw (e ∙ h) (lowest_of_le 32 _)
-
--- "all its bytes are zero", of the known subscribers
-pub row_empty_why : (known : List ℕ) (p : Peer) → row_empty known p ≡ true → (t : Topic) → t.0 < 32 → get_or known (spot p t) 0 ≡ 0
-unfolding row_empty
-row_empty_why known p h t b = eqb-true _ _ (all_why 32 (λ (t : ℕ). eqb (get_or known (spot p (topic t)) 0) 0) h t.0 b)
-
-pub row_empty_not : (known : List ℕ) (p : Peer) → row_empty known p ≡ false → ((t : Topic) → t.0 < 32 → get_or known (spot p t) 0 ≡ 0) → ⊥
-unfolding row_empty
-row_empty_not known p h e = clash (all_yes 32 _ λ t b. eq-eqb _ _ (e (topic t) b)) h
+rule_found right None h f = sym (lowest_of_is_all 32 right) ∙ eq-eqb _ 32 (sym h ∙ f)
+rule_found right (Some q) h f = sym (lowest_of_is_all 32 right) ∙ ne_eqb λ d. omega (arith, f.0, f.1, h, d)
 
 -- "each neighbour q is present": by the word of those that are not
 pub near_lowest : (listed present : ℕ) → listed < 2 ^ 32 → lowest 32 (minus listed present) ≡ near_absent listed present
 unfolding near_absent
 near_lowest listed present h = lowest_lowest_of 32 (minus listed present) (minus_lt 32 listed present h) ∙ lowest_of_same 32 _ _ λ q l. has_minus listed present q
+
+pub near_none : (listed present : ℕ) {absent : ℕ} → listed < 2 ^ 32 → absent ≡ minus listed present → absent ≡ 0 → near_absent listed present ≡ 32
+near_none listed present h e z = sym (near_lowest listed present h) ∙ ap (lowest 32) (sym e ∙ z) ∙ lowest_none 32
+
+pub near_found : (listed present : ℕ) {absent q : ℕ} → listed < 2 ^ 32 → absent ≡ minus listed present → (q ≡ lowest 32 absent) × (q < 32) → (q ≡ near_absent listed present) × (q < 32)
+near_found listed present h e l = (l.0 ∙ ap (lowest 32) e ∙ near_lowest listed present h, l.1)
 
 pub near_is : (n : Network) (p : Peer) → near_absent (neighbours_of n p) n.present ≡ lowest_wrong (near_at n p)
 unfolding near_absent lowest_wrong
@@ -91,3 +82,37 @@ same_is n p e = rw e (all_same 32 _ _ λ t b. ap (eqb (known_of n p (topic t))) 
 pub known_is : (n : Network) (p : Peer) {subscribers : List ℕ} → subscribers ≡ subscribers_of n.subs → row_known n.known subscribers (neighbours_of n p) p ≡ lowest_wrong (known_at n p)
 unfolding row_known lowest_wrong
 known_is n p e = rw e (lowest_of_same 32 _ _ λ t b. ap (λ (w : ℕ). not (eqb (known_of n p (topic t)) w)) (both_is n p t b))
+
+-- ---- what each test says of a network's record: that the rule is kept, or that it is broken
+module _ (n : Network) (p : Peer) where
+  pub own_kept : {r : Bool} → r ≡ has (neighbours_of n p) p.0 → r ≡ false → own_right n p ≡ true
+  unfolding own_right
+  own_kept e h = ap not (sym e ∙ h)
+
+  near_found_is : (o : Option ℕ) → Found 32 o (near_absent (neighbours_of n p) n.present) → near_right n p ≡ not (is_some o)
+  unfolding near_right
+  near_found_is o f = rule_found (near_at n p) o (near_is n p) f
+
+  pub near_kept : (o : Option ℕ) → Found 32 o (near_absent (neighbours_of n p) n.present) → is_some o ≡ false → near_right n p ≡ true
+  near_kept o f h = near_found_is o f ∙ ap not h
+
+  pub near_broken : (o : Option ℕ) → Found 32 o (near_absent (neighbours_of n p) n.present) → is_some o ≡ true → near_right n p ≡ false
+  near_broken o f h = near_found_is o f ∙ ap not h
+
+  back_found_is : (o : Option ℕ) → Found 32 o (list_back n.neighbours (neighbours_of n p) p) → back_right n p ≡ not (is_some o)
+  unfolding back_right
+  back_found_is o f = rule_found (back_at n p) o (back_is n p) f
+
+  pub back_kept : (o : Option ℕ) → Found 32 o (list_back n.neighbours (neighbours_of n p) p) → is_some o ≡ false → back_right n p ≡ true
+  back_kept o f h = back_found_is o f ∙ ap not h
+
+  pub back_broken : (o : Option ℕ) → Found 32 o (list_back n.neighbours (neighbours_of n p) p) → is_some o ≡ true → back_right n p ≡ false
+  back_broken o f h = back_found_is o f ∙ ap not h
+
+  pub known_tested : {subscribers : List ℕ} {r b : Bool} → subscribers ≡ subscribers_of n.subs → r ≡ all 32 (same_at n.known subscribers (neighbours_of n p) p) → r ≡ b → known_right n p ≡ b
+  known_tested s e h = sym (same_is n p s) ∙ sym e ∙ h
+
+-- the answer of a search, with 32 for none
+pub found_or : (o : Option ℕ) {k : ℕ} → Found 32 o k → unwrap_or o 32 ≡ k
+found_or None f = sym f
+found_or (Some q) f = f.0

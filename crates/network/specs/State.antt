@@ -2,17 +2,17 @@
 --   "numbers are little-endian"; "A state is 32 peer records, 5,120 bytes"; a peer record has "0 present (0 or 1); 1-3 zero;
 --   4-7 pubs; 8-11 subs; 12-15 neighbours; 16-23 pending; 24-31 seen; 32-159 known subscribers for topics 0 to 31, 4 bytes each".
 -- So word 0 of a record is its head, 1 pubs, 2 subs, 3 neighbours, 4-5 pending, 6-7 seen, 8-39 known subscribers.
-use Rattle.std.specs.Prelude.{◌≡◌, cond, List, ℕ, zero, suc, ◌+◌, ◌*◌, ◌/◌, ◌%◌, ◌^◌, eqb, length, replicate}
+use Rattle.std.specs.Prelude.{◌≡◌, cond, Result, List, ℕ, zero, suc, ◌+◌, ◌*◌, ◌/◌, ◌%◌, ◌^◌, eqb, length, replicate}
 use Rattle.sets.specs.Set.{set_of}
 use Rattle.lists.specs.Tab.{tab}
 use Rattle.endian.specs.Le.{le}
 use Rattle.network.specs.declared.Peer.{Peer}
 use Rattle.network.specs.declared.Network.{Network}
-use Rattle.network.specs.declared.Opened.{Opened}
-use Rattle.network.specs.declared.Looked.{Looked}
 use Rattle.network.specs.declared.Checked.{Checked}
+use Rattle.network.specs.declared.Refused.{Refused}
 use Rattle.network.specs.Network.{peer, topic, mk, pubs_of, subs_of, neighbours_of, pending_of, seen_of, known_of}
 use Rattle.network.specs.Rules.{fault_of, head_of, checked, verdict_by, verdict_of}
+use Rattle.network.specs.Refused.{checked_as}
 
 -- ---- reading
 
@@ -56,6 +56,14 @@ verdict_at b = verdict_by (λ (p : ℕ). word_in b p 0) (net_of b)
 unfoldable pub blank_net : Network
 blank_net = mk 0 (replicate 32 0) (replicate 32 0) (replicate 32 0) (replicate 32 0) (replicate 32 0) (replicate 1024 0)
 
+-- What reading a state answers: the number of document 01 ("Numbers returned") or 02 (E1), the record at fault, the detail, and the network;
+-- the blank one where the number is not 0.
+pub record Opened : Type 0 where
+  pub number : ℕ
+  pub place : ℕ
+  pub detail : ℕ
+  pub network : Network
+
 abbrev pub opened : ℕ → ℕ → ℕ → Network → Opened
 opened number place detail n = record { number = number; place = place; detail = detail; network = n }
 
@@ -67,15 +75,19 @@ opened_by c n = opened c.number c.place c.detail (cond (eqb c.number 0) n blank_
 unfoldable pub open_of : List ℕ → Opened
 open_of b = cond (eqb (length b) 5120) (opened_by (verdict_at b) (net_of b)) (opened 1 0 0 blank_net)
 
--- Reading into lent arrays: its answer, with the network n that the arrays are then in the place of the one read; and that network,
--- from the one that the arrays were: what the words say, refused or not, where there are 5,120 bytes.
-abbrev pub opened_as : Looked → Network → Opened
-opened_as r n = opened_by (checked r.number r.place r.detail) n
+-- an answer of the code, with the network that it left, in these words
+abbrev pub read_as : {A : Type 0} → Result A Refused → Network → Opened
+read_as r n = let c = checked_as r in opened c.number c.place c.detail n
+
+-- Opening a network: its answer, with the network n that is then there in the place of the one read; and that network, from the one that
+-- was there: what the words say, refused or not, where there are 5,120 bytes.
+abbrev pub opened_as : {A : Type 0} → Result A Refused → Network → Opened
+opened_as r n = opened_by (checked_as r) n
 
 unfoldable pub over_of : List ℕ → Network → Network
 over_of b old = cond (eqb (length b) 5120) (net_of b) old
 
-pub record Opens (b : List ℕ) (old : Network) (r : Looked) (n : Network) : Type 0 where
+pub record Opens {A : Type 0} (b : List ℕ) (old : Network) (r : Result A Refused) (n : Network) : Type 0 where
   pub answer : opened_as r n ≡ open_of b
   pub arrays : n ≡ over_of b old
 

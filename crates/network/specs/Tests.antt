@@ -1,5 +1,5 @@
 -- What the code tests in place of a rule of specs/Rules.antt, over the words themselves, and that it is the rule. Assumes nothing.
-use Rattle.std.specs.Prelude.{Bool, not, ◌&&◌, List, ℕ, eqb, get_or}
+use Rattle.std.specs.Prelude.{◌≡◌, Bool, not, ◌&&◌, Option, None, Some, List, ℕ, ◌<◌, eqb, get_or}
 use Rattle.sets.specs.Set.{has, meet, with_if, set_of}
 use Rattle.sets.specs.Least.{lowest_of}
 use Rattle.sets.specs.Any.{all}
@@ -7,6 +7,11 @@ use Rattle.lists.specs.Tab.{tab}
 use Rattle.lists.specs.Edit.{edit}
 use Rattle.network.specs.declared.Peer.{Peer}
 use Rattle.network.specs.Network.{topic, spot}
+
+-- the answer of a search among the numbers below n for the lowest of a kind, where `lowest_of` answers k: n is none
+abbrev pub Found : ℕ → Option ℕ → ℕ → Type 0
+Found n None k = k ≡ n
+Found n (Some i) k = (i ≡ k) × (i < n)
 
 -- the peers subscribed to each topic, from the subs of all peers: worked out once a state
 unfoldable pub subscribers_of : List ℕ → List ℕ

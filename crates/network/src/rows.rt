@@ -1,21 +1,19 @@
 // The rows of a message table (specs/Rows.antt), each read as one number of 4 bytes (specs/RowWords.antt).
-ghost use Rattle.std.specs.Prelude.{◌≡◌, ℕ, length, get_or};
+ghost use Rattle.std.specs.Prelude.{◌≡◌, ℕ, get_or};
 ghost use Rattle.sets.specs.Any.{all};
 ghost use Rattle.lists.specs.Tab.{tab};
 ghost use Rattle.network.specs.RowWords.{row_word, word_right, bad_word, words_table};
+ghost use Rattle.network.specs.Tests.{Found};
 
 use crate::Table;
 
 // The number of each row.
-pub(crate) fn words(table: &[u8]) -> [u32; 64]
-    requires { length table.now ≡ 256 }
+pub(crate) fn words(table: &[u8; 256]) -> [u32; 64]
     ensures { result ≡ tab 64 (row_word table.now) }
 {
     let mut x = [0u32; 64];
-    let mut r: usize = 0;
-    while r < 64 {
+    for r in 0..64 {
         x[r] = endian::le4(table, 4 * r);
-        r += 1;
     }
     x
 }
@@ -35,31 +33,27 @@ fn all_right(words: &[u32; 64]) -> bool
     ensures { result ≡ all 64 (λ (r : ℕ). word_right (get_or words.now r 0)) }
 {
     let mut ok = true;
-    let mut r: usize = 0;
-    while r < 64 {
+    for r in 0..64 {
         if !right(words[r]) {
             ok = false;
         }
-        r += 1;
     }
     ok
 }
 
-// The lowest row that is not right; 64 where all are.
-pub(crate) fn bad(words: &[u32; 64]) -> usize
-    ensures { result ≡ bad_word words.now }
+// The lowest row that is not right.
+pub(crate) fn bad(words: &[u32; 64]) -> Option<usize>
+    ensures { Found 64 result (bad_word words.now) }
 {
     if all_right(words) {
-        return 64;
+        return None;
     }
-    let mut r: usize = 0;
-    while r < 64 {
+    for r in 0..64 {
         if !right(words[r]) {
-            return r;
+            return Some(r);
         }
-        r += 1;
     }
-    64
+    None
 }
 
 // The topics and the origins.
@@ -68,11 +62,9 @@ pub(crate) fn columns(words: &[u32; 64]) -> Table
 {
     let mut topics = [0u8; 64];
     let mut origins = [0u8; 64];
-    let mut r: usize = 0;
-    while r < 64 {
+    for r in 0..64 {
         topics[r] = (words[r] % 256) as u8;
         origins[r] = (words[r] / 256 % 256) as u8;
-        r += 1;
     }
     Table { topics, origins }
 }

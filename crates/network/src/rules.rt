@@ -3,24 +3,21 @@
 ghost use Rattle.std.specs.Prelude.{◌≡◌, ℕ, ◌%◌, ◌<◌, eqb, get_or};
 ghost use Rattle.sets.specs.Set.{set_of};
 ghost use Rattle.sets.specs.Any.{all};
-ghost use Rattle.network.specs.declared.Network.{Network};
-ghost use Rattle.network.specs.Network.{with_present, with_pubs, with_subs, with_neighbours, with_pending, with_seen, with_known, with_all};
-ghost use Rattle.network.specs.Rules.{absent_fault, present_fault, fault_of};
-ghost use Rattle.network.specs.Tests.{subscribers_of, joined_to, row_empty, near_absent, list_back, same_at, row_known};
+ghost use Rattle.network.specs.Refusal.{number};
+ghost use Rattle.network.specs.Rules.{empty_right, absent_fault, present_fault, fault_of};
+ghost use Rattle.network.specs.Tests.{Found, subscribers_of, joined_to, row_empty, near_absent, list_back, same_at, row_known};
 
-use crate::{Peer, Topic, spot};
+use crate::{Network, Peer, Refusal, Topic, spot};
 
 // "A peer is present when byte 0 is 1": the peers whose first word has 1 as its lowest byte.
 pub(crate) fn ones(heads: &[u32; 32]) -> u32
     ensures { result ≡ set_of 32 (λ (p : ℕ). eqb (get_or heads.now p 0 % 256) 1) }
 {
     let mut r: u32 = 0;
-    let mut p: u32 = 0;
-    while p < 32 {
-        if heads[p as usize] % 256 == 1 {
-            r = sets::with32(r, p);
+    for p in 0..32 {
+        if heads[p] % 256 == 1 {
+            r = sets::with32(r, p as u32);
         }
-        p += 1;
     }
     r
 }
@@ -43,10 +40,8 @@ pub(crate) fn subscribers(subs: &[u32; 32]) -> [u32; 32]
     ensures { result ≡ subscribers_of subs.now }
 {
     let mut r = [0u32; 32];
-    let mut q: u8 = 0;
-    while q < 32 {
+    for q in 0..32 {
         join(&mut r, subs[q as usize], Peer(q));
-        q += 1;
     }
     r
 }
@@ -58,42 +53,40 @@ fn row_empty(known: &[u32; 1024], p: Peer) -> bool
 {
     let base = p.0 as usize * 32;
     let mut same = true;
-    let mut t: usize = 0;
-    while t < 32 {
+    for t in 0..32 {
         if known[base + t] != 0 {
             same = false;
         }
-        t += 1;
     }
     same
 }
 
-// The lowest of the peers listed that is absent; 32 where all are present.
-pub(crate) fn near_absent(listed: u32, present: u32) -> u32
-    ensures { result ≡ near_absent listed present }
+// The lowest of the peers listed that is absent.
+pub(crate) fn near_absent(listed: u32, present: u32) -> Option<u32>
+    ensures { Found 32 result (near_absent listed present) }
 {
     let absent = sets::minus32(listed, present);
     if absent == 0 {
-        return 32;
+        return None;
     }
-    sets::lowest32(absent)
+    Some(sets::lowest32(absent))
 }
 
-// The lowest of the peers listed that doesn't list p; 32 where all do. (Those left stand in a word of 64 bits: some machines take the least from
-// it in a step less, docs/BENCH.md.)
-pub(crate) fn list_back(neighbours: &[u32; 32], listed: u32, p: Peer) -> u32
+// The lowest of the peers listed that doesn't list p. (Those left stand in a word of 64 bits: some machines take the least from it in a
+// step less, docs/BENCH.md.)
+pub(crate) fn list_back(neighbours: &[u32; 32], listed: u32, p: Peer) -> Option<u32>
     requires { p.0 < 32 }
-    ensures { result ≡ list_back neighbours.now listed p }
+    ensures { Found 32 result (list_back neighbours.now listed p) }
 {
     let mut left = listed as u64;
     while 0 < left {
         let q = sets::lowest64(left);
         if !sets::has32(neighbours[q as usize], p.0 as u32) {
-            return q;
+            return Some(q);
         }
         left = sets::rest64(left);
     }
-    32
+    None
 }
 
 // The row of p has, for each topic, the subscribers among the peers listed. Every topic is asked, so that the compiler can ask many at once.
@@ -103,140 +96,97 @@ fn row_same(known: &[u32; 1024], subscribers: &[u32; 32], listed: u32, p: Peer) 
 {
     let base = p.0 as usize * 32;
     let mut same = true;
-    let mut t: usize = 0;
-    while t < 32 {
+    for t in 0..32 {
         if known[base + t] != sets::meet32(subscribers[t], listed) {
             same = false;
         }
-        t += 1;
     }
     same
 }
 
-// The lowest topic for which the row of p has other subscribers than those among the peers listed; 32 where there is none. It is for
-// the detail alone: a test of the rule asks `row_same`, since the search, inlined, spoils the comparison by vectors.
-pub(crate) fn row_known(known: &[u32; 1024], subscribers: &[u32; 32], listed: u32, p: Peer) -> u32
+// The lowest topic for which the row of p has other subscribers than those among the peers listed. It is for the detail alone: a test of
+// the rule asks `row_same`, since the search, inlined, spoils the comparison by vectors.
+pub(crate) fn row_known(
+    known: &[u32; 1024],
+    subscribers: &[u32; 32],
+    listed: u32,
+    p: Peer,
+) -> Option<u32>
     requires { p.0 < 32 }
-    ensures { result ≡ row_known known.now subscribers.now listed p }
+    ensures { Found 32 result (row_known known.now subscribers.now listed p) }
 {
     if row_same(known, subscribers, listed, p) {
-        return 32;
+        return None;
     }
-    let mut t: u8 = 0;
-    while t < 32 {
+    for t in 0..32 {
         if known[spot(p, Topic(t))] != sets::meet32(subscribers[t as usize], listed) {
-            return t as u32;
+            return Some(t as u32);
         }
-        t += 1;
     }
-    32
+    None
 }
 
-// The fault of an absent record: 21 where it is not empty. This and what follows speak of every network that has the lent arrays.
-fn absent_fault(
-    p: Peer,
-    pubs: &[u32; 32],
-    subs: &[u32; 32],
-    neighbours: &[u32; 32],
-    pending: &[u64; 32],
-    seen: &[u64; 32],
-    known: &[u32; 1024],
-) -> u8
+// The record of p is empty.
+#[tactic(auto, unfolding(crate::specs::Rules::empty_right, crate::specs::Tests::row_empty))]
+fn empty(n: &Network, p: Peer) -> bool
     requires { p.0 < 32 }
-    ensures { (n : Network) → result ≡ absent_fault (with_pubs
-        (with_subs (with_neighbours (with_pending (with_seen (with_known n known.now) seen.now) pending.now)
-        neighbours.now) subs.now) pubs.now) p }
+    ensures { result ≡ empty_right n.now p }
 {
     let i = p.0 as usize;
-    if pubs[i] != 0 {
-        return 21;
+    n.pubs[i] == 0
+        && n.subs[i] == 0
+        && n.neighbours[i] == 0
+        && n.pending[i] == 0
+        && n.seen[i] == 0
+        && row_empty(&n.known, p)
+}
+
+// The fault of an absent record: it is not empty.
+#[tactic(auto, unfolding(crate::specs::Rules::absent_fault, crate::specs::Rules::need))]
+fn absent_fault(n: &Network, p: Peer) -> Result<(), Refusal>
+    requires { p.0 < 32 }
+    ensures { number result ≡ absent_fault n.now p }
+{
+    if empty(n, p) {
+        return Ok(());
     }
-    if subs[i] != 0 {
-        return 21;
-    }
-    if neighbours[i] != 0 {
-        return 21;
-    }
-    if pending[i] != 0 {
-        return 21;
-    }
-    if seen[i] != 0 {
-        return 21;
-    }
-    if row_empty(known, p) {
-        return 0;
-    }
-    21
+    Err(Refusal::AbsentNotEmpty)
 }
 
 // The fault of a present record, `subscribers` being the peers subscribed to each topic.
-fn present_fault(
-    p: Peer,
-    present: u32,
-    subs: &[u32; 32],
-    neighbours: &[u32; 32],
-    pending: &[u64; 32],
-    seen: &[u64; 32],
-    known: &[u32; 1024],
-    subscribers: &[u32; 32],
-) -> u8
-    requires { (p.0 < 32) × (subscribers.now ≡ subscribers_of subs.now) }
-    ensures { (n : Network) → result ≡ present_fault (with_present
-        (with_subs (with_neighbours (with_pending (with_seen (with_known n known.now) seen.now) pending.now)
-        neighbours.now) subs.now) present) p }
+fn present_fault(n: &Network, p: Peer, subscribers: &[u32; 32]) -> Result<(), Refusal>
+    requires { (p.0 < 32) × (subscribers.now ≡ subscribers_of n.now.subs) }
+    ensures { number result ≡ present_fault n.now p }
 {
     let i = p.0 as usize;
-    let listed = neighbours[i];
+    let listed = n.neighbours[i];
     if sets::has32(listed, p.0 as u32) {
-        return 22;
+        return Err(Refusal::OwnNeighbour);
     }
-    if near_absent(listed, present) != 32 {
-        return 23;
+    if near_absent(listed, n.present).is_some() {
+        return Err(Refusal::NeighbourAbsent);
     }
-    if list_back(neighbours, listed, p) != 32 {
-        return 24;
+    if list_back(&n.neighbours, listed, p).is_some() {
+        return Err(Refusal::NotListedBack);
     }
-    if !row_same(known, subscribers, listed, p) {
-        return 25;
+    if !row_same(&n.known, subscribers, listed, p) {
+        return Err(Refusal::KnownWrong);
     }
-    if sets::meet64(pending[i], seen[i]) != 0 {
-        return 26;
+    if sets::meet64(n.pending[i], n.seen[i]) != 0 {
+        return Err(Refusal::PendingSeen);
     }
-    0
+    Ok(())
 }
 
-// The first rule that p's record breaks, its first word being `head`; 0 where it breaks none.
-pub(crate) fn fault(
-    head: u32,
-    p: Peer,
-    present: u32,
-    pubs: &[u32; 32],
-    subs: &[u32; 32],
-    neighbours: &[u32; 32],
-    pending: &[u64; 32],
-    seen: &[u64; 32],
-    known: &[u32; 1024],
-    subscribers: &[u32; 32],
-) -> u8
-    requires { (p.0 < 32) × (subscribers.now ≡ subscribers_of subs.now) }
-    ensures { (n : Network) → result ≡ fault_of head
-        (with_all n present pubs.now subs.now neighbours.now pending.now seen.now
-        known.now) p }
+// The first rule that p's record breaks, its first word being `head`.
+#[tactic(auto, unfolding(crate::specs::Rules::fault_of, crate::specs::Rules::need))]
+pub(crate) fn fault(n: &Network, head: u32, p: Peer, subscribers: &[u32; 32]) -> Result<(), Refusal>
+    requires { (p.0 < 32) × (subscribers.now ≡ subscribers_of n.now.subs) }
+    ensures { number result ≡ fault_of head n.now p }
 {
-    if 2 <= head {
-        return 20;
+    match head {
+        0 => absent_fault(n, p),
+        1 => present_fault(n, p, subscribers),
+        _ => Err(Refusal::BadHead),
     }
-    if head == 0 {
-        return absent_fault(p, pubs, subs, neighbours, pending, seen, known);
-    }
-    present_fault(
-        p,
-        present,
-        subs,
-        neighbours,
-        pending,
-        seen,
-        known,
-        subscribers,
-    )
 }

@@ -2,20 +2,18 @@
 ghost use Rattle.std.specs.Prelude.{◌≡◌, ℕ, ◌<◌, length, get_or};
 ghost use Rattle.sets.specs.Set.{has, digit};
 ghost use Rattle.lists.specs.Tab.{tab};
-ghost use Rattle.network.specs.Network.{topic, spot};
+ghost use Rattle.network.specs.Network.{topic, spot, pubs_of, subs_of, neighbours_of, pending_of, seen_of};
+ghost use Rattle.network.specs.Rules.{head_of};
 ghost use Rattle.network.specs.Storing.{put_head, put_row};
 
-use crate::Peer;
+use crate::{Network, Peer};
 
 // The first word of p's record: 1 where p is present.
-pub(crate) fn head(present: u32, p: Peer) -> u32
+fn head(n: &Network, p: Peer) -> u32
     requires { p.0 < 32 }
-    ensures { result ≡ digit (has present p.0) }
+    ensures { result ≡ head_of n.now p }
 {
-    if sets::has32(present, p.0 as u32) {
-        return 1;
-    }
-    0
+    u32::from(sets::has32(n.present, p.0 as u32))
 }
 
 // The first words of all records: 1 at each member of `present`, 0 elsewhere.
@@ -32,26 +30,18 @@ pub(crate) fn heads(present: u32) -> [u32; 32]
 }
 
 // The words of record p up to its known subscribers.
-pub(crate) fn words(
-    state: &mut [u8],
-    p: Peer,
-    head: u32,
-    pubs: u32,
-    subs: u32,
-    neighbours: u32,
-    pending: u64,
-    seen: u64,
-)
+pub(crate) fn words(state: &mut [u8], n: &Network, p: Peer)
     requires { (length state.old ≡ 5120) × (p.0 < 32) }
-    ensures { state.new ≡ put_head state.old p.0 head pubs subs neighbours pending seen }
+    ensures { state.new ≡ put_head state.old p.0 (head_of n.now p) (pubs_of n.now p) (subs_of n.now p) (neighbours_of n.now p) (pending_of n.now p) (seen_of n.now p) }
 {
-    let at = 160 * p.0 as usize;
-    endian::put4(&mut *state, at, head);
-    endian::put4(&mut *state, at + 4, pubs);
-    endian::put4(&mut *state, at + 8, subs);
-    endian::put4(&mut *state, at + 12, neighbours);
-    endian::put8(&mut *state, at + 16, pending);
-    endian::put8(&mut *state, at + 24, seen);
+    let i = p.0 as usize;
+    let at = 160 * i;
+    endian::put4(&mut *state, at, head(n, p));
+    endian::put4(&mut *state, at + 4, n.pubs[i]);
+    endian::put4(&mut *state, at + 8, n.subs[i]);
+    endian::put4(&mut *state, at + 12, n.neighbours[i]);
+    endian::put8(&mut *state, at + 16, n.pending[i]);
+    endian::put8(&mut *state, at + 24, n.seen[i]);
 }
 
 // The known subscribers of p.
@@ -61,10 +51,8 @@ pub(crate) fn row_of(known: &[u32; 1024], p: Peer) -> [u32; 32]
 {
     let base = p.0 as usize * 32;
     let mut r = [0u32; 32];
-    let mut t: usize = 0;
-    while t < 32 {
+    for t in 0..32 {
         r[t] = known[base + t];
-        t += 1;
     }
     r
 }
@@ -75,9 +63,7 @@ pub(crate) fn row(state: &mut [u8], row: [u32; 32], p: Peer)
     ensures { state.new ≡ put_row 32 state.old row p.0 }
 {
     let i = p.0 as usize;
-    let mut t: usize = 0;
-    while t < 32 {
+    for t in 0..32 {
         endian::put4(&mut *state, 160 * i + 32 + 4 * t, row[t]);
-        t += 1;
     }
 }

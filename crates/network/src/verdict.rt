@@ -1,91 +1,42 @@
 // The verdict on a network: the lowest record that breaks a rule, which rule that is, and the detail (specs/Rules.antt).
 ghost use Rattle.std.specs.Prelude.{◌≡◌, ℕ, ◌<◌, get_or};
-ghost use Rattle.network.specs.declared.Network.{Network};
-ghost use Rattle.network.specs.Network.{with_present, with_subs, with_neighbours, with_known, with_all};
+ghost use Rattle.network.specs.Refusal.{number_of};
+ghost use Rattle.network.specs.Refused.{checked_as};
 ghost use Rattle.network.specs.Rules.{detail_of, verdict_by};
 ghost use Rattle.network.specs.Tests.{subscribers_of};
 
-use crate::{Checked, Peer, rules};
+use crate::{Network, Peer, Refusal, Refused, rules};
 
-// The detail that goes with the number of p's fault: the lowest peer or topic at fault for 23 to 25, 0 for the others. It is asked only
-// once a record is known to be at fault.
-fn detail(
-    number: u8,
-    p: Peer,
-    present: u32,
-    subs: &[u32; 32],
-    neighbours: &[u32; 32],
-    known: &[u32; 1024],
-    subscribers: &[u32; 32],
-) -> u8
-    requires { (p.0 < 32) × (subscribers.now ≡ subscribers_of subs.now) }
-    ensures { (n : Network) → result ≡ detail_of number (with_present
-        (with_subs (with_neighbours (with_known n known.now) neighbours.now) subs.now) present) p }
+// The detail that goes with p's fault: the lowest peer or topic at fault for 23 to 25, 0 for the others. It is asked only once a record is
+// known to be at fault.
+fn detail(n: &Network, refusal: Refusal, p: Peer, subscribers: &[u32; 32]) -> u8
+    requires { (p.0 < 32) × (subscribers.now ≡ subscribers_of n.now.subs) }
+    ensures { result ≡ detail_of (number_of refusal) n.now p }
 {
-    let listed = neighbours[p.0 as usize];
-    if number == 23 {
-        return rules::near_absent(listed, present) as u8;
-    }
-    if number == 24 {
-        return rules::list_back(neighbours, listed, p) as u8;
-    }
-    if number == 25 {
-        return rules::row_known(known, subscribers, listed, p) as u8;
-    }
-    0
+    let listed = n.neighbours[p.0 as usize];
+    let found = match refusal {
+        Refusal::NeighbourAbsent => rules::near_absent(listed, n.present),
+        Refusal::NotListedBack => rules::list_back(&n.neighbours, listed, p),
+        Refusal::KnownWrong => rules::row_known(&n.known, subscribers, listed, p),
+        _ => Some(0),
+    };
+    found.unwrap_or(32) as u8
 }
 
-// The verdict: the lowest record that breaks a rule, the number of the first rule that it breaks, and the detail; zeros where none does.
-pub(crate) fn verdict<'a>(
-    heads: &'a [u32; 32],
-    present: u32,
-    pubs: &'a [u32; 32],
-    subs: &'a [u32; 32],
-    neighbours: &'a [u32; 32],
-    pending: &'a [u64; 32],
-    seen: &'a [u64; 32],
-    known: &'a [u32; 1024],
-) -> Checked
-    ensures { (n : Network) → result ≡ verdict_by (λ (p : ℕ). get_or heads.now p 0)
-        (with_all n present pubs.now subs.now neighbours.now pending.now seen.now
-        known.now) }
+// The verdict: the lowest record that breaks a rule, the first rule that it breaks, and the detail.
+pub(crate) fn verdict(n: &Network, heads: &[u32; 32]) -> Result<(), Refused>
+    ensures { checked_as result ≡ verdict_by (λ (p : ℕ). get_or heads.now p 0) n.now }
 {
-    let subscribers = rules::subscribers(subs);
-    let mut p: u8 = 0;
-    while p < 32 {
-        let i = p as usize;
-        let number = rules::fault(
-            heads[i],
-            Peer(p),
-            present,
-            pubs,
-            subs,
-            neighbours,
-            pending,
-            seen,
-            known,
-            &subscribers,
-        );
-        if number != 0 {
-            return Checked {
-                number,
-                detail: detail(
-                    number,
-                    Peer(p),
-                    present,
-                    subs,
-                    neighbours,
-                    known,
-                    &subscribers,
-                ),
-                place: i,
-            };
+    let subscribers = rules::subscribers(&n.subs);
+    for p in 0..32 {
+        let place = p as usize;
+        if let Err(refusal) = rules::fault(n, heads[place], Peer(p), &subscribers) {
+            return Err(Refused {
+                refusal,
+                place,
+                detail: detail(n, refusal, Peer(p), &subscribers),
+            });
         }
-        p += 1;
     }
-    Checked {
-        number: 0,
-        detail: 0,
-        place: 0,
-    }
+    Ok(())
 }

@@ -1,11 +1,7 @@
 -- The invariants of `broadcastnet::underway`. Assumes nothing.
 use mathlib.Core.Path.{◌≡◌}
-use Prim.Native.Nat.{◌-◌, ◌≤◌}
 use Rattle.broadcastnet.specs.Commit.{together}
 use Rattle.broadcastnet.proofs.underway.Given as goal
 
-abbrev pub invariant-loop-p : goal.invariant-loop-p
-invariant-loop-p l = (l.p ≤ 32) × (l.w ≡ together l.p l.pending)
-
-abbrev pub decreases-loop-p : goal.decreases-loop-p
-decreases-loop-p l = 32 - l.p
+abbrev pub invariant-loop-had : goal.invariant-loop-had
+invariant-loop-had l = l.w ≡ together l.had-index l.pending

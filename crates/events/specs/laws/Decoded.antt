@@ -5,8 +5,7 @@ use Rattle.sets.proofs.laws.Bools.{and_yes}
 use Rattle.events.specs.declared.Fields.{Fields}
 use Rattle.events.specs.declared.Event.{Event}
 use Rattle.events.specs.declared.Event.TheVariants.{Skip, Produce, Forward, Subscribe, Unsubscribe, Leave, Join}
-use Rattle.events.specs.declared.Reading.{Reading}
-use Rattle.events.specs.Event.{taken, no_more, no_sets, no_message, skip_ok, pair_ok, topics_ok, leave_ok, join_ok, or_seven, decode_of}
+use Rattle.events.specs.Event.{Reading, taken, no_more, no_sets, no_message, skip_ok, pair_ok, topics_ok, leave_ok, join_ok, or_seven, decode_of}
 use Rattle.events.specs.Writing.{fields_mk, fields_of}
 use Rattle.events.specs.Fits.{EventFits}
 use Rattle.events.specs.laws.Fits.{Small}

@@ -1,31 +1,31 @@
 -- 01's number and values fix the case: a promise through `reading_of` says which case was answered, and every reading of bytes is
 -- a case's. Assumes nothing.
-use Rattle.std.specs.Prelude.{ℕ, ◌*◌, ◌/◌, ◌<◌, ◌≡◌, refl, Bool, true, false, cond, List, ltb, eqb, length}
+use Rattle.std.specs.Prelude.{ℕ, ◌*◌, ◌/◌, ◌<◌, ◌≡◌, refl, Bool, true, false, cond, List, ltb, eqb, length, Option, None, Some, Result, Ok, Err}
 use Rattle.std.proofs.Common.{sym, ap, ◌∙◌, lt-ltb, ltb-true}
 use Rattle.sets.proofs.laws.Bools.{clash}
 use Rattle.events.specs.declared.Fields.{Fields}
 use Rattle.events.specs.declared.Event.{Event}
-use Rattle.events.specs.declared.Read.{Read}
-use Rattle.events.specs.declared.Read.TheVariants.{Taken, End, Unknown, Unfit}
-use Rattle.events.specs.declared.Reading.{Reading}
-use Rattle.events.specs.Event.{taken, refused, ended, reading_of, read_of, or_seven, decode_of, fields_at, reading_at, read_at}
+use Rattle.network.specs.declared.refusal.Refusal.{Refusal}
+use Rattle.events.specs.laws.Numbers.{refusal_of, refusal_of_number}
+use Rattle.events.specs.Event.{Read, Reading, taken, refused, ended, reading_of, read_of, or_seven, decode_of, fields_at, reading_at, read_at}
 
--- a case is found again from its reading
-read_of_lem : (r : Read) → read_of (reading_of r) ≡ r
-unfolding read_of reading_of
-read_of_lem (Taken e) = refl
-read_of_lem End = refl
-read_of_lem Unknown = refl
-read_of_lem Unfit = refl
+-- a case is found again from its reading, by its number
+unfoldable case_of : Reading → Read
+case_of r = cond r.found (Some (answer (refusal_of r.number))) None
+  where
+    answer : Option Refusal → Result Event Refusal
+    answer (Some refusal) = Err refusal
+    answer None = Ok r.event
 
--- Two answers with the same number and values are the same case.
+case_of_lem : (r : Read) → case_of (reading_of r) ≡ r
+unfolding case_of reading_of refusal_of
+case_of_lem (Some (Ok e)) = refl
+case_of_lem (Some (Err refusal)) = rw (refusal_of_number refusal)
+case_of_lem None = refl
+
+-- Two answers with the same number and values are the same case, since two refusals have two numbers.
 pub reading_fixes : (a b : Read) → reading_of a ≡ reading_of b → a ≡ b
-reading_fixes a b h = sym (read_of_lem a) ∙ (ap read_of h ∙ read_of_lem b)
-
--- So the promise of reading gives the answer back as a case.
-pub read_is : (r : Read) (l : List ℕ) (place : ℕ) → reading_of r ≡ reading_at l place → r ≡ read_at l place
-unfolding read_at
-read_is r l place h = sym (read_of_lem r) ∙ ap read_of h
+reading_fixes a b h = sym (case_of_lem a) ∙ (ap case_of h ∙ case_of_lem b)
 
 -- a reading that some case has
 unfoldable OfCase : Reading → Type 0
@@ -64,12 +64,16 @@ pub reading_at_lem : (l : List ℕ) (place : ℕ) → reading_of (read_at l plac
 unfolding OfCase read_at
 reading_at_lem l place = of_bytes l place
 
+-- So the promise of reading gives the answer back as a case.
+pub read_is : (r : Read) (l : List ℕ) (place : ℕ) → reading_of r ≡ reading_at l place → r ≡ read_at l place
+read_is r l place h = reading_fixes r (read_at l place) (h ∙ sym (reading_at_lem l place))
+
 -- an event is taken at a place: as a case, and in numbers and values
-pub reads_as : (l : List ℕ) (place : ℕ) (e : Event) → reading_at l place ≡ taken e → read_at l place ≡ Taken e
+pub reads_as : (l : List ℕ) (place : ℕ) (e : Event) → reading_at l place ≡ taken e → read_at l place ≡ Some (Ok e)
 unfolding read_at read_of
 reads_as l place e h = rw h
 
-pub reading_taken : (l : List ℕ) (place : ℕ) (e : Event) → read_at l place ≡ Taken e → reading_at l place ≡ taken e
+pub reading_taken : (l : List ℕ) (place : ℕ) (e : Event) → read_at l place ≡ Some (Ok e) → reading_at l place ≡ taken e
 unfolding reading_of
 reading_taken l place e h = sym (reading_at_lem l place) ∙ ap reading_of h
 
@@ -90,17 +94,27 @@ found_fields f = kind 0 _ _ _ (kind 1 _ _ _ (kind 2 _ _ _ (kind 3 _ _ _ (kind 4 
     kind : (code : ℕ) (b : Bool) (e : Event) (y : Reading) → y.found ≡ true → (cond (eqb f.code code) (or_seven b e) y).found ≡ true
     kind code b e y k = found_cond (eqb f.code code) _ y (found_seven b e) k
 
-pub never_ended : (l : List ℕ) (place : ℕ) → place < length l / 16 → read_at l place ≡ End → ⊥
+pub never_ended : (l : List ℕ) (place : ℕ) → place < length l / 16 → read_at l place ≡ None → ⊥
 unfolding reading_at reading_of
 never_ended l place h e =
     let there : (reading_at l place).found ≡ true = rw (lt-ltb place (length l / 16) h) (found_fields _) in
     clash there (ap (λ (x : Reading). x.found) (sym (reading_at_lem l place) ∙ ap reading_of e))
 
--- and an event that is taken stands within the bytes
-pub taken_inside : (l : List ℕ) (place : ℕ) (e : Event) → read_at l place ≡ Taken e → place < length l / 16
+-- whatever is answered but the end has found a record
+found_some : (x : Result Event Refusal) → (reading_of (Some x)).found ≡ true
+unfolding reading_of
+found_some (Ok e) = refl
+found_some (Err refusal) = refl
+
+-- and it stands within the bytes
+pub found_inside : (l : List ℕ) (place : ℕ) (x : Result Event Refusal) → reading_of (Some x) ≡ reading_at l place → place < length l / 16
 unfolding reading_at
-taken_inside l place e k = first (ltb place (length l / 16)) refl (reading_taken l place e k)
+found_inside l place x h = first (ltb place (length l / 16)) refl h
   where
-    first : (b : Bool) → ltb place (length l / 16) ≡ b → cond b (decode_of (fields_at l (place * 16))) ended ≡ taken e → place < length l / 16
-    first true t h = ltb-true _ _ t
-    first false t h = clash (ap (λ (r : Reading). r.found) h) refl
+    first : (b : Bool) → ltb place (length l / 16) ≡ b → reading_of (Some x) ≡ cond b (decode_of (fields_at l (place * 16))) ended → place < length l / 16
+    first true t k = ltb-true _ _ t
+    first false t k = clash (found_some x) (ap (λ (r : Reading). r.found) k)
+
+-- as an event that is taken does
+pub taken_inside : (l : List ℕ) (place : ℕ) (e : Event) → read_at l place ≡ Some (Ok e) → place < length l / 16
+taken_inside l place e k = found_inside l place (Ok e) (sym (ap reading_of k) ∙ reading_at_lem l place)

@@ -1,5 +1,5 @@
 -- Reading a state: what the code has worked out is what `open_of` says. Assumes nothing.
-use Rattle.std.specs.Prelude.{◌≡◌, List, ℕ, ◌%◌, eqb, length, get_or}
+use Rattle.std.specs.Prelude.{◌≡◌, true, false, Result, Ok, Err, is_err, List, ℕ, ◌%◌, eqb, length, get_or}
 use Rattle.std.proofs.Common.{sym, ap, ◌∙◌, eq-eqb}
 use Rattle.sets.specs.Set.{set_of}
 use Rattle.sets.proofs.laws.Bools.{ne_eqb}
@@ -8,12 +8,13 @@ use Rattle.lists.specs.Tab.{tab}
 use Rattle.lists.specs.laws.Tab.{get_or_tab}
 use Rattle.network.specs.declared.Network.{Network}
 use Rattle.network.specs.Network.{mk}
-use Rattle.network.specs.Rules.{verdict_by}
+use Rattle.network.specs.Refused.{checked_as}
+use Rattle.network.specs.Rules.{checked, verdict_by}
 use Rattle.network.specs.declared.Checked.{Checked}
-use Rattle.network.specs.declared.Looked.{Looked}
-use Rattle.network.specs.declared.Opened.{Opened}
+use Rattle.network.specs.declared.Refused.{Refused}
 use Rattle.network.specs.laws.Faults.{verdict_tab}
-use Rattle.network.specs.State.{word_in, long_in, known_in, net_of, verdict_at, blank_net, opened, opened_by, open_of, over_of, Opens}
+use Rattle.network.specs.State.{word_in, long_in, known_in, net_of, verdict_at, blank_net, Opened, opened, opened_by, read_as, open_of, over_of, Opens}
+use Rattle.network.specs.laws.Refusal.{refusal_not_0}
 
 -- the columns make the network
 pub net_is : (b : List ℕ) {present : ℕ} {heads pubs subs neighbours pending seen known : List ℕ}
@@ -50,23 +51,34 @@ pub open_0 : (b : List ℕ) {c : Checked} {n : Network} → length b ≡ 5120 �
 unfolding open_of opened_by
 open_0 b {c} h e z en = rw (eq-eqb (length b) 5120 h, ← e, z, en)
 
--- the same of reading into lent arrays
-abbrev pub looked : ℕ → ℕ → ℕ → ℕ → Looked
-looked number place detail present = record { number = number; place = place; detail = detail; present = present }
-
-pub opens_1 : (b : List ℕ) (old : Network) → (length b ≡ 5120 → ⊥) → Opens b old (looked 1 0 0 old.present) old
+-- the same of opening a network
+pub opens_1 : {A : Type 0} (b : List ℕ) (old : Network) {r : Result A Refused} → checked_as r ≡ checked 1 0 0 → (length b ≡ 5120 → ⊥) → Opens b old r old
 unfolding opened_by over_of
-opens_1 b old h = record { answer = open_1 b h; arrays = rw (ne_eqb h) }
+opens_1 b old e h = record { answer = rw e (open_1 b h); arrays = rw (ne_eqb h) }
 
-pub opens_verdict : (b : List ℕ) (old : Network) {c : Checked} {n : Network} → length b ≡ 5120 → c ≡ verdict_at b → n ≡ net_of b
-    → Opens b old (looked c.number c.place c.detail n.present) n
-unfolding open_of opened_by over_of
+pub opens_verdict : {A : Type 0} (b : List ℕ) (old : Network) {r : Result A Refused} {n : Network} → length b ≡ 5120 → checked_as r ≡ verdict_at b → n ≡ net_of b → Opens b old r n
+unfolding open_of over_of
 opens_verdict b old h e en = record { answer = rw (eq-eqb (length b) 5120 h, ← e, en); arrays = rw (eq-eqb (length b) 5120 h) en }
 
+-- the bytes as an array are the bytes
+pub opens_same : {A : Type 0} {a b : List ℕ} {old n : Network} {r : Result A Refused} → a ≡ b → Opens a old r n → Opens b old r n
+opens_same e o = rw e at o
+
 -- any two outcomes that satisfy the promise are equal
-pub settled_opens : {b : List ℕ} {old n m : Network} {r q : Looked} → Opens b old r n → Opens b old q m
-    → (r.number ≡ q.number) × (r.place ≡ q.place) × (r.detail ≡ q.detail) × (n ≡ m)
+pub settled_opens : {A : Type 0} {b : List ℕ} {old n m : Network} {r q : Result A Refused} → Opens b old r n → Opens b old q m 
+    → ((checked_as r).number ≡ (checked_as q).number) × ((checked_as r).place ≡ (checked_as q).place) × ((checked_as r).detail ≡ (checked_as q).detail) × (n ≡ m)
 unfolding opened_by
 settled_opens x y =
     let e = x.answer ∙ sym y.answer in
     (ap (λ (o : Opened). o.number) e, ap (λ (o : Opened). o.place) e, ap (λ (o : Opened). o.detail) e, x.arrays ∙ sym y.arrays)
+
+-- and of reading: the network that `open` left is the one read, or the blank one takes its place
+pub read_accepted : {A : Type 0} {b : List ℕ} {old n : Network} (r : Result A Refused) → Opens b old r n → is_err r ≡ false → read_as r n ≡ open_of b
+unfolding opened_by
+read_accepted (Ok a) o h = o.answer
+read_accepted (Err e) o h = cc
+
+pub read_refused : {A : Type 0} {b : List ℕ} {old n m : Network} (r : Result A Refused) → Opens b old r n → is_err r ≡ true → m ≡ blank_net → read_as r m ≡ open_of b
+unfolding opened_by
+read_refused (Ok a) o h em = cc
+read_refused (Err e) o h em = let z = ne_eqb (refusal_not_0 e.refusal) in rw em (rw z at o.answer)

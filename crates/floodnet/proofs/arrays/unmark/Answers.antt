@@ -2,15 +2,8 @@
 use borrow.Author.Rules.{rules}
 use mathlib.Core.Path.{◌∙◌}
 use Rattle.sets.specs.Set.{strikes}
-use Rattle.sets.proofs.laws.Sizes.{size_less}
-use Rattle.lists.specs.laws.Visit.{visiting_none, visiting_more, visiting_done, visits_edit}
+use Rattle.lists.specs.laws.Visit.{visiting_more, visiting_done, visits_edit}
 use Rattle.floodnet.proofs.arrays.unmark.Goals as goal
-
-pub loop-left-init : goal.loop-left-init
-loop-left-init c = visiting_none 32 _ _ _ (search rules)
-
-pub loop-left-smaller : goal.loop-left-smaller
-loop-left-smaller c = size_less 32 (search rules) (search rules) c.rest32-left.ensures.0
 
 pub loop-left-preserved : goal.loop-left-preserved
 unfolding strikes

@@ -1,11 +1,8 @@
 -- The invariants of `network::load::longs`. Assumes nothing.
-use Prim.Native.Nat.{ℕ, ◌-◌, ◌≤◌}
+use Prim.Native.Nat.{ℕ}
 use Rattle.lists.specs.Tab.{Filled}
 use Rattle.network.specs.State.{long_in}
 use Rattle.network.proofs.load.longs.Given as goal
 
 abbrev pub invariant-loop-p : goal.invariant-loop-p
-invariant-loop-p l = (l.p ≤ 32) × Filled 32 (λ (q : ℕ). long_in l.state q l.j) l.p l.r
-
-abbrev pub decreases-loop-p : goal.decreases-loop-p
-decreases-loop-p l = 32 - l.p
+invariant-loop-p l = Filled 32 (λ (q : ℕ). long_in l.state q l.j) l.p l.r

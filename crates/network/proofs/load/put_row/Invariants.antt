@@ -1,12 +1,8 @@
 -- The invariants of `network::load::put_row`. Assumes nothing.
 use mathlib.Core.Path.{◌≡◌}
-use Prim.Native.Nat.{◌-◌, ◌≤◌}
 use lib.ListN.{length}
 use Rattle.network.specs.Layout.{RowStored}
 use Rattle.network.proofs.load.put_row.Given as goal
 
 abbrev pub invariant-loop-t : goal.invariant-loop-t
-invariant-loop-t l = (l.t ≤ 32) × ((length l.known ≡ 1024) × RowStored l.t l.i l.row l.initial.known l.known)
-
-abbrev pub decreases-loop-t : goal.decreases-loop-t
-decreases-loop-t l = 32 - l.t
+invariant-loop-t l = ((length l.known ≡ 1024) × RowStored l.t l.i l.row l.initial.known l.known)

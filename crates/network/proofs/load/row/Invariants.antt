@@ -1,11 +1,8 @@
 -- The invariants of `network::load::row`. Assumes nothing.
-use Prim.Native.Nat.{ℕ, ◌+◌, ◌-◌, ◌≤◌}
+use Prim.Native.Nat.{ℕ, ◌+◌}
 use Rattle.lists.specs.Tab.{Filled}
 use Rattle.network.specs.State.{word_in}
 use Rattle.network.proofs.load.row.Given as goal
 
 abbrev pub invariant-loop-t : goal.invariant-loop-t
-invariant-loop-t l = (l.t ≤ 32) × Filled 32 (λ (u : ℕ). word_in l.state l.i (8 + u)) l.t l.r
-
-abbrev pub decreases-loop-t : goal.decreases-loop-t
-decreases-loop-t l = 32 - l.t
+invariant-loop-t l = Filled 32 (λ (u : ℕ). word_in l.state l.i (8 + u)) l.t l.r

@@ -1,13 +1,10 @@
 -- The invariants of `network::rows::all_right`. Assumes nothing.
 use mathlib.Core.Path.{◌≡◌}
-use Prim.Native.Nat.{ℕ, ◌-◌, ◌≤◌}
+use Prim.Native.Nat.{ℕ}
 use lib.ListN.{get_or}
 use Rattle.sets.specs.Any.{all}
 use Rattle.network.specs.RowWords.{word_right}
 use Rattle.network.proofs.rows.all_right.Given as goal
 
 abbrev pub invariant-loop-r : goal.invariant-loop-r
-invariant-loop-r l = (l.r ≤ 64) × (l.ok ≡ all l.r (λ (i : ℕ). word_right (get_or l.words i 0)))
-
-abbrev pub decreases-loop-r : goal.decreases-loop-r
-decreases-loop-r l = 64 - l.r
+invariant-loop-r l = (l.ok ≡ all l.r (λ (i : ℕ). word_right (get_or l.words i 0)))

@@ -1,14 +1,11 @@
 -- The invariants of `network::rows::bad`. Assumes nothing.
 use mathlib.Core.Path.{◌≡◌}
 use mathlib.Core.Bool.{not}
-use Prim.Native.Nat.{ℕ, ◌-◌, ◌≤◌}
+use Prim.Native.Nat.{ℕ}
 use lib.ListN.{get_or}
 use Rattle.sets.specs.Least.{lowest_of}
 use Rattle.network.specs.RowWords.{word_right}
 use Rattle.network.proofs.rows.bad.Given as goal
 
 abbrev pub invariant-loop-r : goal.invariant-loop-r
-invariant-loop-r l = (l.r ≤ 64) × (l.r ≡ lowest_of l.r (λ (i : ℕ). not (word_right (get_or l.words i 0))))
-
-abbrev pub decreases-loop-r : goal.decreases-loop-r
-decreases-loop-r l = 64 - l.r
+invariant-loop-r l = (l.r ≡ lowest_of l.r (λ (i : ℕ). not (word_right (get_or l.words i 0))))

@@ -1,11 +1,8 @@
 -- The invariants of `network::rows::columns`. Assumes nothing.
-use Prim.Native.Nat.{ℕ, ◌-◌, ◌/◌, ◌%◌, ◌≤◌}
+use Prim.Native.Nat.{ℕ, ◌/◌, ◌%◌}
 use lib.ListN.{get_or}
 use Rattle.lists.specs.Tab.{Filled}
 use Rattle.network.proofs.rows.columns.Given as goal
 
 abbrev pub invariant-loop-r : goal.invariant-loop-r
-invariant-loop-r l = (l.r ≤ 64) × Filled 64 (λ (i : ℕ). get_or l.words i 0 % 256) l.r l.topics × Filled 64 (λ (i : ℕ). get_or l.words i 0 / 256 % 256) l.r l.origins
-
-abbrev pub decreases-loop-r : goal.decreases-loop-r
-decreases-loop-r l = 64 - l.r
+invariant-loop-r l = Filled 64 (λ (i : ℕ). get_or l.words i 0 % 256) l.r l.topics × Filled 64 (λ (i : ℕ). get_or l.words i 0 / 256 % 256) l.r l.origins

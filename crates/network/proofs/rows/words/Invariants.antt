@@ -1,11 +1,7 @@
 -- The invariants of `network::rows::words`. Assumes nothing.
-use Prim.Native.Nat.{◌-◌, ◌≤◌}
 use Rattle.lists.specs.Tab.{Filled}
 use Rattle.network.specs.RowWords.{row_word}
 use Rattle.network.proofs.rows.words.Given as goal
 
 abbrev pub invariant-loop-r : goal.invariant-loop-r
-invariant-loop-r l = (l.r ≤ 64) × Filled 64 (row_word l.table) l.r l.x
-
-abbrev pub decreases-loop-r : goal.decreases-loop-r
-decreases-loop-r l = 64 - l.r
+invariant-loop-r l = Filled 64 (row_word l.table) l.r l.x

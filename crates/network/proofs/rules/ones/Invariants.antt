@@ -1,13 +1,10 @@
 -- The invariants of `network::rules::ones`. Assumes nothing.
 use mathlib.Core.Path.{◌≡◌}
-use Prim.Native.Nat.{ℕ, ◌-◌, ◌%◌, ◌≤◌}
+use Prim.Native.Nat.{ℕ, ◌%◌}
 use lib.Dec.{eqb}
 use lib.ListN.{get_or}
 use Rattle.sets.specs.Set.{set_of}
 use Rattle.network.proofs.rules.ones.Given as goal
 
 abbrev pub invariant-loop-p : goal.invariant-loop-p
-invariant-loop-p l = (l.p ≤ 32) × (l.r ≡ set_of l.p (λ (q : ℕ). eqb (get_or l.heads q 0 % 256) 1))
-
-abbrev pub decreases-loop-p : goal.decreases-loop-p
-decreases-loop-p l = 32 - l.p
+invariant-loop-p l = (l.r ≡ set_of l.p (λ (q : ℕ). eqb (get_or l.heads q 0 % 256) 1))

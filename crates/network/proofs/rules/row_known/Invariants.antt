@@ -1,13 +1,10 @@
 -- The invariants of `network::rules::row_known`. Assumes nothing.
 use mathlib.Core.Path.{◌≡◌}
 use mathlib.Core.Bool.{not}
-use Prim.Native.Nat.{ℕ, ◌-◌, ◌≤◌}
+use Prim.Native.Nat.{ℕ}
 use Rattle.sets.specs.Least.{lowest_of}
 use Rattle.network.specs.Tests.{same_at}
 use Rattle.network.proofs.rules.row_known.Given as goal
 
 abbrev pub invariant-loop-t : goal.invariant-loop-t
-invariant-loop-t l = (l.t ≤ 32) × (l.t ≡ lowest_of l.t (λ (u : ℕ). not (same_at l.known l.subscribers l.listed l.p u)))
-
-abbrev pub decreases-loop-t : goal.decreases-loop-t
-decreases-loop-t l = 32 - l.t
+invariant-loop-t l = (l.t ≡ lowest_of l.t (λ (u : ℕ). not (same_at l.known l.subscribers l.listed l.p u)))

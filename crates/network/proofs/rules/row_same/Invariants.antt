@@ -1,6 +1,6 @@
 -- The invariants of `network::rules::row_same`. Assumes nothing.
 use mathlib.Core.Path.{◌≡◌}
-use Prim.Native.Nat.{ℕ, ◌+◌, ◌-◌, ◌≤◌}
+use Prim.Native.Nat.{ℕ, ◌+◌}
 use lib.Dec.{eqb}
 use lib.ListN.{get_or}
 use Rattle.sets.specs.Set.{meet}
@@ -8,7 +8,4 @@ use Rattle.sets.specs.Any.{all}
 use Rattle.network.proofs.rules.row_same.Given as goal
 
 abbrev pub invariant-loop-t : goal.invariant-loop-t
-invariant-loop-t l = (l.t ≤ 32) × (l.same ≡ all l.t (λ (u : ℕ). eqb (get_or l.known (l.base + u) 0) (meet (get_or l.subscribers u 0) l.listed)))
-
-abbrev pub decreases-loop-t : goal.decreases-loop-t
-decreases-loop-t l = 32 - l.t
+invariant-loop-t l = (l.same ≡ all l.t (λ (u : ℕ). eqb (get_or l.known (l.base + u) 0) (meet (get_or l.subscribers u 0) l.listed)))

@@ -1,12 +1,8 @@
 -- The invariants of `network::store::row`. Assumes nothing.
 use mathlib.Core.Path.{◌≡◌}
-use Prim.Native.Nat.{◌-◌, ◌≤◌}
 use lib.ListN.{length}
 use Rattle.network.specs.Storing.{put_row}
 use Rattle.network.proofs.store.row.Given as goal
 
 abbrev pub invariant-loop-t : goal.invariant-loop-t
-invariant-loop-t l = (l.t ≤ 32) × ((length l.state ≡ 5120) × (l.state ≡ put_row l.t l.initial.state l.row l.i))
-
-abbrev pub decreases-loop-t : goal.decreases-loop-t
-decreases-loop-t l = 32 - l.t
+invariant-loop-t l = ((length l.state ≡ 5120) × (l.state ≡ put_row l.t l.initial.state l.row l.i))

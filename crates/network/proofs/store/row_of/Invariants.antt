@@ -1,11 +1,8 @@
 -- The invariants of `network::store::row_of`. Assumes nothing.
-use Prim.Native.Nat.{ℕ, ◌+◌, ◌-◌, ◌≤◌}
+use Prim.Native.Nat.{ℕ, ◌+◌}
 use lib.ListN.{get_or}
 use Rattle.lists.specs.Tab.{Filled}
 use Rattle.network.proofs.store.row_of.Given as goal
 
 abbrev pub invariant-loop-t : goal.invariant-loop-t
-invariant-loop-t l = (l.t ≤ 32) × Filled 32 (λ (u : ℕ). get_or l.known (l.base + u) 0) l.t l.r
-
-abbrev pub decreases-loop-t : goal.decreases-loop-t
-decreases-loop-t l = 32 - l.t
+invariant-loop-t l = Filled 32 (λ (u : ℕ). get_or l.known (l.base + u) 0) l.t l.r

@@ -12,6 +12,7 @@ use Rattle.sets.proofs.laws.Members.{has_meet, has_minus}
 use Rattle.sets.proofs.laws.Bounds.{meet_lt, minus_lt}
 use Rattle.sets.proofs.laws.Build.{set_of_lt, has_set_of, is_set_of}
 use Rattle.sets.specs.Set.{has, meet, minus, set_of, lowest}
+use Rattle.sets.specs.Rising.{Gives}
 use Rattle.sets.proofs.laws.Bools.{clash, and_or_not, ne_eqb}
 use Rattle.sets.proofs.laws.Least.{lowest_of_le, lowest_of_same, lowest_of_is_all}
 use Rattle.sets.proofs.laws.Lowest.{lowest_none, lowest_lowest_of}
@@ -48,11 +49,9 @@ pub near_lowest : (listed present : ℕ) → listed < 2 ^ 32 → lowest 32 (minu
 unfolding near_absent
 near_lowest listed present h = lowest_lowest_of 32 (minus listed present) (minus_lt 32 listed present h) ∙ lowest_of_same 32 _ _ λ q l. has_minus listed present q
 
-pub near_none : (listed present : ℕ) {absent : ℕ} → listed < 2 ^ 32 → absent ≡ minus listed present → absent ≡ 0 → near_absent listed present ≡ 32
-near_none listed present h e z = sym (near_lowest listed present h) ∙ ap (lowest 32) (sym e ∙ z) ∙ lowest_none 32
-
-pub near_found : (listed present : ℕ) {absent q : ℕ} → listed < 2 ^ 32 → absent ≡ minus listed present → (q ≡ lowest 32 absent) × (q < 32) → (q ≡ near_absent listed present) × (q < 32)
-near_found listed present h e l = (l.0 ∙ ap (lowest 32) e ∙ near_lowest listed present h, l.1)
+pub near_next : (listed present : ℕ) {absent : ℕ} (w : ℕ) (o : Option ℕ) → listed < 2 ^ 32 → absent ≡ minus listed present → Gives 32 absent o w → Found 32 o (near_absent listed present)
+near_next listed present w None h e g = sym (near_lowest listed present h) ∙ ap (lowest 32) (sym e ∙ g.0) ∙ lowest_none 32
+near_next listed present w (Some q) h e t = (t.least ∙ ap (lowest 32) e ∙ near_lowest listed present h, t.below)
 
 pub near_is : (n : Network) (p : Peer) → near_absent (neighbours_of n p) n.present ≡ lowest_wrong (near_at n p)
 unfolding near_absent lowest_wrong

@@ -21,6 +21,8 @@ ghost use Rattle.network.specs.Storing.{put_messages};
 ghost use Rattle.network.specs.State.{blank_net, read_as, open_of, Opens, bytes_of, write_of, written_of};
 ghost use Rattle.network.specs.Rows.{blank_table, listed_as, list_of};
 
+use endian::Little;
+
 pub use refusal::Refusal;
 
 // "A peer number, a topic number and a message number are separate sorts": none stands where another is meant.
@@ -160,8 +162,8 @@ impl Network {
         ensures { state.new ≡ put_messages 32 state.old self.now.pending self.now.seen }
     {
         for p in 0..32 {
-            endian::put8(&mut *state, 160 * p + 16, self.pending[p]);
-            endian::put8(&mut *state, 160 * p + 24, self.seen[p]);
+            self.pending[p].put(&mut *state, 160 * p + 16);
+            self.seen[p].put(&mut *state, 160 * p + 24);
         }
     }
 

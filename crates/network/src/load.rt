@@ -4,6 +4,7 @@ ghost use Rattle.lists.specs.Tab.{tab};
 ghost use Rattle.network.specs.State.{word_in, long_in, known_in};
 ghost use Rattle.network.specs.Layout.{RowStored};
 
+use endian::Little;
 use crate::Peer;
 
 // Word j of each record.
@@ -13,7 +14,7 @@ pub(crate) fn words(state: &[u8; 5120], j: usize) -> [u32; 32]
 {
     let mut r = [0u32; 32];
     for p in 0..32 {
-        r[p] = endian::le4(state, 4 * (40 * p + j));
+        r[p] = u32::read(state, 4 * (40 * p + j));
     }
     r
 }
@@ -25,7 +26,7 @@ pub(crate) fn longs(state: &[u8; 5120], j: usize) -> [u64; 32]
 {
     let mut r = [0u64; 32];
     for p in 0..32 {
-        r[p] = endian::le8(state, 4 * (40 * p + j));
+        r[p] = u64::read(state, 4 * (40 * p + j));
     }
     r
 }
@@ -38,7 +39,7 @@ fn row(state: &[u8; 5120], p: Peer) -> [u32; 32]
     let i = p.0 as usize;
     let mut r = [0u32; 32];
     for t in 0..32 {
-        r[t] = endian::le4(state, 4 * (40 * i + (8 + t)));
+        r[t] = u32::read(state, 4 * (40 * i + (8 + t)));
     }
     r
 }

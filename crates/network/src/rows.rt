@@ -5,6 +5,7 @@ ghost use Rattle.lists.specs.Tab.{tab};
 ghost use Rattle.network.specs.RowWords.{row_word, word_right, bad_word, words_table};
 ghost use Rattle.network.specs.Tests.{Found};
 
+use endian::Little;
 use crate::Table;
 
 // The number of each row.
@@ -13,7 +14,7 @@ pub(crate) fn words(table: &[u8; 256]) -> [u32; 64]
 {
     let mut x = [0u32; 64];
     for r in 0..64 {
-        x[r] = endian::le4(table, 4 * r);
+        x[r] = u32::read(table, 4 * r);
     }
     x
 }

@@ -7,6 +7,7 @@ ghost use Rattle.network.specs.Refusal.{number};
 ghost use Rattle.network.specs.Rules.{empty_right, absent_fault, present_fault, fault_of};
 ghost use Rattle.network.specs.Tests.{Found, subscribers_of, joined_to, row_empty, near_absent, list_back, same_at, row_known};
 
+use sets::Word;
 use crate::{Network, Peer, Refusal, Topic, spot};
 
 // "A peer is present when byte 0 is 1": the peers whose first word has 1 as its lowest byte.
@@ -16,7 +17,7 @@ pub(crate) fn ones(heads: &[u32; 32]) -> u32
     let mut r: u32 = 0;
     for p in 0..32 {
         if heads[p] % 256 == 1 {
-            r = sets::with32(r, p as u32);
+            r = r.with(p as u32);
         }
     }
     r
@@ -27,11 +28,8 @@ fn join(to: &mut [u32; 32], topics: u32, q: Peer)
     requires { q.0 < 32 }
     ensures { to.new ≡ joined_to topics q.0 to.old }
 {
-    let mut left = topics;
-    while 0 < left {
-        let t = sets::lowest32(left) as usize;
-        to[t] = sets::with32(to[t], q.0 as u32);
-        left = sets::rest32(left);
+    for t in topics.members() {
+        to[t as usize] = to[t as usize].with(q.0 as u32);
     }
 }
 
@@ -65,11 +63,7 @@ fn row_empty(known: &[u32; 1024], p: Peer) -> bool
 pub(crate) fn near_absent(listed: u32, present: u32) -> Option<u32>
     ensures { Found 32 result (near_absent listed present) }
 {
-    let absent = sets::minus32(listed, present);
-    if absent == 0 {
-        return None;
-    }
-    Some(sets::lowest32(absent))
+    listed.minus(present).members().next()
 }
 
 // The lowest of the peers listed that doesn't list p. (Those left stand in a word of 64 bits: some machines take the least from it in a
@@ -78,13 +72,10 @@ pub(crate) fn list_back(neighbours: &[u32; 32], listed: u32, p: Peer) -> Option<
     requires { p.0 < 32 }
     ensures { Found 32 result (list_back neighbours.now listed p) }
 {
-    let mut left = listed as u64;
-    while 0 < left {
-        let q = sets::lowest64(left);
-        if !sets::has32(neighbours[q as usize], p.0 as u32) {
+    for q in (listed as u64).members() {
+        if !neighbours[q as usize].has(p.0 as u32) {
             return Some(q);
         }
-        left = sets::rest64(left);
     }
     None
 }
@@ -97,7 +88,7 @@ fn row_same(known: &[u32; 1024], subscribers: &[u32; 32], listed: u32, p: Peer) 
     let base = p.0 as usize * 32;
     let mut same = true;
     for t in 0..32 {
-        if known[base + t] != sets::meet32(subscribers[t], listed) {
+        if known[base + t] != subscribers[t].meet(listed) {
             same = false;
         }
     }
@@ -119,7 +110,7 @@ pub(crate) fn row_known(
         return None;
     }
     for t in 0..32 {
-        if known[spot(p, Topic(t))] != sets::meet32(subscribers[t as usize], listed) {
+        if known[spot(p, Topic(t))] != subscribers[t as usize].meet(listed) {
             return Some(t as u32);
         }
     }
@@ -160,7 +151,7 @@ fn present_fault(n: &Network, p: Peer, subscribers: &[u32; 32]) -> Result<(), Re
 {
     let i = p.0 as usize;
     let listed = n.neighbours[i];
-    if sets::has32(listed, p.0 as u32) {
+    if listed.has(p.0 as u32) {
         return Err(Refusal::OwnNeighbour);
     }
     if near_absent(listed, n.present).is_some() {
@@ -172,7 +163,7 @@ fn present_fault(n: &Network, p: Peer, subscribers: &[u32; 32]) -> Result<(), Re
     if !row_same(&n.known, subscribers, listed, p) {
         return Err(Refusal::KnownWrong);
     }
-    if sets::meet64(n.pending[i], n.seen[i]) != 0 {
+    if n.pending[i].meet(n.seen[i]) != 0 {
         return Err(Refusal::PendingSeen);
     }
     Ok(())

@@ -6,6 +6,8 @@ ghost use Rattle.network.specs.Network.{topic, spot, pubs_of, subs_of, neighbour
 ghost use Rattle.network.specs.Rules.{head_of};
 ghost use Rattle.network.specs.Storing.{put_head, put_row};
 
+use sets::Word;
+use endian::Little;
 use crate::{Network, Peer};
 
 // The first word of p's record: 1 where p is present.
@@ -13,7 +15,7 @@ fn head(n: &Network, p: Peer) -> u32
     requires { p.0 < 32 }
     ensures { result ≡ head_of n.now p }
 {
-    u32::from(sets::has32(n.present, p.0 as u32))
+    u32::from(n.present.has(p.0 as u32))
 }
 
 // The first words of all records: 1 at each member of `present`, 0 elsewhere.
@@ -21,10 +23,8 @@ pub(crate) fn heads(present: u32) -> [u32; 32]
     ensures { result ≡ tab 32 (λ (p : ℕ). digit (has present p)) }
 {
     let mut r = [0u32; 32];
-    let mut left = present;
-    while left != 0 {
-        r[sets::lowest32(left) as usize] = 1;
-        left = sets::rest32(left);
+    for p in present.members() {
+        r[p as usize] = 1;
     }
     r
 }
@@ -36,12 +36,12 @@ pub(crate) fn words(state: &mut [u8], n: &Network, p: Peer)
 {
     let i = p.0 as usize;
     let at = 160 * i;
-    endian::put4(&mut *state, at, head(n, p));
-    endian::put4(&mut *state, at + 4, n.pubs[i]);
-    endian::put4(&mut *state, at + 8, n.subs[i]);
-    endian::put4(&mut *state, at + 12, n.neighbours[i]);
-    endian::put8(&mut *state, at + 16, n.pending[i]);
-    endian::put8(&mut *state, at + 24, n.seen[i]);
+    head(n, p).put(&mut *state, at);
+    n.pubs[i].put(&mut *state, at + 4);
+    n.subs[i].put(&mut *state, at + 8);
+    n.neighbours[i].put(&mut *state, at + 12);
+    n.pending[i].put(&mut *state, at + 16);
+    n.seen[i].put(&mut *state, at + 24);
 }
 
 // The known subscribers of p.
@@ -64,6 +64,6 @@ pub(crate) fn row(state: &mut [u8], row: [u32; 32], p: Peer)
 {
     let i = p.0 as usize;
     for t in 0..32 {
-        endian::put4(&mut *state, 160 * i + 32 + 4 * t, row[t]);
+        row[t].put(&mut *state, 160 * i + 32 + 4 * t);
     }
 }

@@ -14,7 +14,7 @@ loop-p-init c = (c.requires, refl)
 pub loop-p-preserved : goal.loop-p-preserved
 loop-p-preserved c =
     let l = c.loop-p in
-    let e = put_messages_more l.p _ _ _ l.invariant.1 c.put8.ensures c.put8-in-loop-p.ensures in
+    let e = put_messages_more l.p _ _ _ l.invariant.1 c.put.ensures c.put-in-loop-p.ensures in
     (ap length e ∙ length_put_messages _ _ _ _ ∙ c.requires, e)
 
 pub returns : goal.returns

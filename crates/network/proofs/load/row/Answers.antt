@@ -8,7 +8,7 @@ use Rattle.network.proofs.load.row.Goals as goal
 
 pub loop-t-preserved : goal.loop-t-preserved
 unfolding word
-loop-t-preserved c = filled_more _ c.loop-t.invariant (search rules) c.le4.ensures
+loop-t-preserved c = filled_more _ c.loop-t.invariant (search rules) c.read.ensures
 
 pub returns : goal.returns
 returns c = filled_all (filled_to _ c.loop-t.invariant (omega arith))

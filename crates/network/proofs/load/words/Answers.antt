@@ -8,7 +8,7 @@ use Rattle.network.proofs.load.words.Goals as goal
 
 pub loop-p-preserved : goal.loop-p-preserved
 unfolding word
-loop-p-preserved c = filled_more _ c.loop-p.invariant (search rules) c.le4.ensures
+loop-p-preserved c = filled_more _ c.loop-p.invariant (search rules) c.read.ensures
 
 pub returns : goal.returns
 returns c = filled_all (filled_to _ c.loop-p.invariant (omega arith))

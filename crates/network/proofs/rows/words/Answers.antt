@@ -8,7 +8,7 @@ use Rattle.network.proofs.rows.words.Goals as goal
 
 pub loop-r-preserved : goal.loop-r-preserved
 unfolding row_word
-loop-r-preserved c = filled_more _ c.loop-r.invariant (search rules) c.le4.ensures
+loop-r-preserved c = filled_more _ c.loop-r.invariant (search rules) c.read.ensures
 
 pub returns : goal.returns
 returns c = filled_all (filled_to _ c.loop-r.invariant (omega arith))

@@ -1,15 +1,17 @@
 -- `network::rules::join` meets its contract. Assumes nothing.
-use borrow.Author.Rules.{rules}
-use Rattle.network.proofs.Gathering.{joins_none, joins_more, joins_all}
-use native.Mathlib.Omega.{arith}
+use Rattle.std.proofs.Common.{rules, ◌∙◌}
+use Rattle.sets.specs.Set.{puts}
+use Rattle.lists.specs.laws.Visit.{visiting_none, visiting_more, visiting_done, visits_edit}
+use Rattle.network.specs.Tests.{joined_to}
 use Rattle.network.proofs.rules.join.Goals as goal
 
-pub loop-left-init : goal.loop-left-init
-loop-left-init c = joins_none _ _ _ (search rules)
+pub loop-t-init : goal.loop-t-init
+loop-t-init c = visiting_none (search rules) (search rules)
 
-pub loop-left-preserved : goal.loop-left-preserved
-loop-left-preserved c =
-    joins_more c.loop-left.invariant (search rules) c.lowest32-t.ensures.0 c.rest32-left.ensures.0 c.with32.ensures
+pub loop-t-preserved : goal.loop-t-preserved
+unfolding puts
+loop-t-preserved c = visiting_more c.loop-t.invariant c.in-Some.ensures.steps c.with.ensures
 
 pub returns : goal.returns
-returns c = joins_all c.loop-left.invariant (omega arith)
+unfolding joined_to
+returns c = visiting_done c.loop-t.invariant c.in-None.ensures.steps.0 ∙ visits_edit _ 32 _ _ (search rules)

@@ -1,9 +1,7 @@
 -- The invariants of `network::rules::join`. Assumes nothing.
-use Rattle.network.proofs.Gathering.{Joins}
+use Rattle.sets.specs.Set.{only, puts}
+use Rattle.lists.specs.laws.Visit.{Visiting}
 use Rattle.network.proofs.rules.join.Given as goal
 
-abbrev pub invariant-loop-left : goal.invariant-loop-left
-invariant-loop-left l = Joins l.initial.to l.topics l.q.0 l.left l.to
-
-abbrev pub decreases-loop-left : goal.decreases-loop-left
-decreases-loop-left l = l.left
+abbrev pub invariant-loop-t : goal.invariant-loop-t
+invariant-loop-t l = Visiting 32 l.topics l.t-iterator.left (λ t. puts (only l.fn.q.0)) l.initial.to l.to

@@ -13,7 +13,7 @@ pub loop-p-preserved : goal.loop-p-preserved
 loop-p-preserved c =
     let l = c.loop-p in
     elim c.if-heads-p-eq1.branch [
-      | then-heads-p-eq1 w ↦ fill_yes l.p _ l.invariant (eq-eqb _ _ w.if-heads-p-eq1.true) (w.r-is ∙ w.with32-r.ensures)
+      | then-heads-p-eq1 w ↦ fill_yes l.p _ l.invariant (eq-eqb _ _ w.if-heads-p-eq1.true) (w.r-is ∙ w.with-r.ensures)
       | else-heads-p-eq1 w ↦ w.r-is ∙ fill_no l.p _ l.invariant (ne_eqb _ _ w.if-heads-p-eq1.false)
     ]
 

@@ -21,13 +21,13 @@ unfolding row_known
 returns-then-known-spot c =
     let a = c.args in
     let l = c.loop-t in
-    (lowest_of_found 32 l.t _ l.invariant (search rules) (ap not (sym (known_at_lem a.known.now a.subscribers.now a.listed a.p l.t c.spot.ensures c.meet32.ensures) ∙ ne_eqb _ _ c.if-known-spot.true)), search rules)
+    (lowest_of_found 32 l.t _ l.invariant (search rules) (ap not (sym (known_at_lem a.known.now a.subscribers.now a.listed a.p l.t c.spot.ensures c.meet.ensures) ∙ ne_eqb _ _ c.if-known-spot.true)), search rules)
 
 pub loop-t-preserved : goal.loop-t-preserved
 loop-t-preserved c =
     let a = c.args in
     let l = c.loop-t in
-    lowest_of_on l.t _ l.invariant (ap not (sym (known_at_lem a.known.now a.subscribers.now a.listed a.p l.t c.spot.ensures c.meet32.ensures) ∙ eq-eqb _ _ c.if-known-spot.false))
+    lowest_of_on l.t _ l.invariant (ap not (sym (known_at_lem a.known.now a.subscribers.now a.listed a.p l.t c.spot.ensures c.meet.ensures) ∙ eq-eqb _ _ c.if-known-spot.false))
 
 pub returns : goal.returns
 unfolding row_known

@@ -12,7 +12,7 @@ loop-t-init c = all_start _
 
 pub loop-t-preserved : goal.loop-t-preserved
 loop-t-preserved c =
-    let m = c.meet32.ensures in
+    let m = c.meet.ensures in
     let l = c.loop-t in
     elim c.if-known-base.branch [
       | then-known-base w ↦ w.same-is ∙ all_lost l.t _ (ne_eqb _ _ (λ e. w.if-known-base.true (e ∙ sym m)))

@@ -7,7 +7,6 @@ use native.Mathlib.Omega.{arith}
 use lib.ListN.{replicate, length-replicate, get_or-replicate}
 use Rattle.sets.specs.Set.{has, when, digit}
 use Rattle.sets.specs.Rising.{members}
-use Rattle.sets.proofs.laws.Sizes.{size_less}
 use Rattle.lists.specs.Tab.{tab}
 use Rattle.lists.specs.Visit.{visits}
 use Rattle.lists.specs.laws.Edit.{length_edit, get_or_edit}
@@ -28,15 +27,11 @@ marked s h =
     bit true = refl
     bit false = refl
 
-pub loop-left-init : goal.loop-left-init
-loop-left-init c = visiting_none 32 _ _ _ (search rules)
+pub loop-p-init : goal.loop-p-init
+loop-p-init c = visiting_none (search rules) (search rules)
 
-pub loop-left-smaller : goal.loop-left-smaller
-loop-left-smaller c = size_less 32 (search rules) (search rules) c.rest32-left.ensures.0
-
-pub loop-left-preserved : goal.loop-left-preserved
-loop-left-preserved c =
-    visiting_more c.loop-left.invariant (search rules) c.lowest32.ensures.0 c.rest32-left.ensures.0 refl
+pub loop-p-preserved : goal.loop-p-preserved
+loop-p-preserved c = visiting_more c.loop-p.invariant c.in-Some.ensures.steps refl
 
 pub returns : goal.returns
-returns c = visiting_done c.loop-left.invariant c.loop-left-test.false ∙ marked _ (search rules)
+returns c = visiting_done c.loop-p.invariant c.in-None.ensures.steps.0 ∙ marked _ (search rules)

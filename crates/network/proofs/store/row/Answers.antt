@@ -15,7 +15,7 @@ loop-t-init c = (search rules, refl)
 pub loop-t-preserved : goal.loop-t-preserved
 loop-t-preserved c =
     let l = c.loop-t in
-    (ap length c.put4.ensures ∙ simp length_put_le l.invariant.0, c.put4.ensures ∙ put_row_more l.t _ _ _ l.invariant.1)
+    (ap length c.put.ensures ∙ simp length_put_le l.invariant.0, c.put.ensures ∙ put_row_more l.t _ _ _ l.invariant.1)
 
 pub returns : goal.returns
 returns c = let e : c.loop-t.t ≡ 32 = omega arith in rw e at c.loop-t.invariant.1

@@ -6,4 +6,4 @@ use Rattle.network.proofs.store.words.Goals as goal
 
 pub returns : goal.returns
 returns c =
-    head_chain _ _ _ _ _ _ _ _ (c.put4.ensures ∙ ap (put_le 4 _ _) c.head.ensures) c.put4-2.ensures c.put4-3.ensures c.put4-4.ensures c.put8.ensures c.put8-2.ensures
+    head_chain _ _ _ _ _ _ _ _ (c.put.ensures ∙ ap (put_le 4 _ _) c.head.ensures) c.put-2.ensures c.put-3.ensures c.put-4.ensures c.put-5.ensures c.put-6.ensures

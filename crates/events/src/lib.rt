@@ -17,6 +17,7 @@ ghost use Rattle.events.specs.Writing.{fields_mk, fields_of, put_head, put_field
 mod judge; // judge.rt: what refusal 7 tests, kind by kind
 pub mod kind; // kind.rt: the kind of an event, for the answers
 
+use endian::Little;
 use kind::Kind;
 use network::{Message, Peer, Refusal};
 
@@ -29,7 +30,7 @@ pub struct Joining {
 }
 
 // Each kind carries only its own fields. A set of topics is a word.
-#[derive(Clone, Copy)]
+#[derive(Clone, Copy, Debug, PartialEq, Eq)]
 pub enum Event {
     Skip,
     Produce(Peer, Message),
@@ -110,9 +111,9 @@ fn fields_at(bytes: &[u8], at: usize) -> Fields
         peer: bytes[at + 1],
         message: bytes[at + 2],
         zero: bytes[at + 3],
-        subs: endian::le4(bytes, at + 4),
-        pubs: endian::le4(bytes, at + 8),
-        neighbours: endian::le4(bytes, at + 12),
+        subs: u32::read(bytes, at + 4),
+        pubs: u32::read(bytes, at + 8),
+        neighbours: u32::read(bytes, at + 12),
     }
 }
 
@@ -177,9 +178,9 @@ fn put_fields(bytes: &mut [u8], at: usize, f: Fields)
     ensures { bytes.new ≡ put_fields bytes.old at f }
 {
     put_head(bytes, at, f);
-    endian::put4(bytes, at + 4, f.subs);
-    endian::put4(bytes, at + 8, f.pubs);
-    endian::put4(bytes, at + 12, f.neighbours);
+    f.subs.put(bytes, at + 4);
+    f.pubs.put(bytes, at + 8);
+    f.neighbours.put(bytes, at + 12);
 }
 
 // The record of an event. A crate that makes records writes them by this and `write_at` (02, E9); the engine only reads.

@@ -11,6 +11,7 @@ ghost use Rattle.lists.specs.Edit.{edit};
 ghost use Rattle.lists.specs.Visit.{visits};
 ghost use Rattle.floodnet.specs.Lent.{holding};
 
+use sets::Word;
 use network::{Message, Peer};
 
 // Those of s that have m neither pending nor seen: the members of s are visited, and no branch depends on who holds what.
@@ -22,10 +23,10 @@ pub(crate) fn lacking(pending: &[u64; 32], seen: &[u64; 32], s: u32, m: Message)
     let mut r: u64 = 0;
     let mut left = s as u64;
     while left != 0 {
-        let q = sets::lowest64(left) as usize;
-        let words = sets::union64(pending[q], seen[q]);
-        r = sets::with_least64(r, left, !sets::has64(words, i));
-        left = sets::rest64(left);
+        let q = left.lowest() as usize;
+        let words = pending[q].union(seen[q]);
+        r = sets::with_least64(r, left, !words.has(i));
+        left = left.rest();
     }
     r as u32
 }
@@ -39,9 +40,9 @@ pub(crate) fn give(pending: &mut [u64; 32], r: u32, m: Message)
     let i = m.0 as u32;
     let mut left = r as u64;
     while left != 0 {
-        let q = sets::lowest64(left) as usize;
-        pending[q] = sets::with64(pending[q], i);
-        left = sets::rest64(left);
+        let q = left.lowest() as usize;
+        pending[q] = pending[q].with(i);
+        left = left.rest();
     }
 }
 
@@ -53,9 +54,9 @@ pub(crate) fn mark(neighbours: &mut [u32; 32], who: u32, p: Peer)
     let i = p.0 as u32;
     let mut left = who;
     while left != 0 {
-        let q = sets::lowest32(left) as usize;
-        neighbours[q] = sets::with32(neighbours[q], i);
-        left = sets::rest32(left);
+        let q = left.lowest() as usize;
+        neighbours[q] = neighbours[q].with(i);
+        left = left.rest();
     }
 }
 
@@ -67,8 +68,8 @@ pub(crate) fn unmark(neighbours: &mut [u32; 32], who: u32, p: Peer)
     let i = p.0 as u32;
     let mut left = who;
     while left != 0 {
-        let q = sets::lowest32(left) as usize;
-        neighbours[q] = sets::without32(neighbours[q], i);
-        left = sets::rest32(left);
+        let q = left.lowest() as usize;
+        neighbours[q] = neighbours[q].without(i);
+        left = left.rest();
     }
 }

@@ -3,6 +3,7 @@ ghost use Rattle.std.specs.Prelude.{◌≡◌, ◌<◌};
 ghost use Rattle.floodnet.specs.Topics.{subscribed_to, unsubscribed_from};
 ghost use Rattle.floodnet.specs.Links.{link_up, link_down, cleared, placed, left, joined};
 
+use sets::Word;
 use super::{arrays, rows};
 use network::{Network, Peer};
 
@@ -13,7 +14,7 @@ pub(crate) fn subscribe(n: &mut Network, p: Peer, topics: u32)
     ensures { n.new ≡ subscribed_to n.old p topics }
 {
     let i = p.0 as usize;
-    n.subs[i] = sets::union32(n.subs[i], topics);
+    n.subs[i] = n.subs[i].union(topics);
     rows::note_all(&mut n.known, n.neighbours[i], topics, p);
 }
 
@@ -24,7 +25,7 @@ pub(crate) fn unsubscribe(n: &mut Network, p: Peer, topics: u32)
     ensures { n.new ≡ unsubscribed_from n.old p topics }
 {
     let i = p.0 as usize;
-    n.subs[i] = sets::minus32(n.subs[i], topics);
+    n.subs[i] = n.subs[i].minus(topics);
     rows::strike_all(&mut n.known, n.neighbours[i], topics, p);
 }
 
@@ -34,7 +35,7 @@ fn link_up(n: &mut Network, p: Peer, who: u32)
     ensures { n.new ≡ link_up n.old p who }
 {
     let i = p.0 as usize;
-    n.neighbours[i] = sets::union32(n.neighbours[i], who);
+    n.neighbours[i] = n.neighbours[i].union(who);
     arrays::mark(&mut n.neighbours, who, p);
     rows::note_all(&mut n.known, who, n.subs[i], p);
     rows::learn(&mut n.known, p, &n.subs, who);
@@ -46,7 +47,7 @@ fn link_down(n: &mut Network, p: Peer, who: u32)
     ensures { n.new ≡ link_down n.old p who }
 {
     let i = p.0 as usize;
-    n.neighbours[i] = sets::minus32(n.neighbours[i], who);
+    n.neighbours[i] = n.neighbours[i].minus(who);
     arrays::unmark(&mut n.neighbours, who, p);
     rows::drop_all(&mut n.known, who, p);
     rows::row_minus(&mut n.known, p, who);
@@ -59,7 +60,7 @@ fn clear(n: &mut Network, p: Peer)
     ensures { n.new ≡ cleared n.old p }
 {
     let i = p.0 as usize;
-    n.present = sets::without32(n.present, p.0 as u32);
+    n.present = n.present.without(p.0 as u32);
     n.pubs[i] = 0;
     n.subs[i] = 0;
     n.neighbours[i] = 0;
@@ -75,7 +76,7 @@ fn place(n: &mut Network, p: Peer, subs: u32, pubs: u32)
     ensures { n.new ≡ placed n.old p subs pubs }
 {
     let i = p.0 as usize;
-    n.present = sets::with32(n.present, p.0 as u32);
+    n.present = n.present.with(p.0 as u32);
     n.pubs[i] = pubs;
     n.subs[i] = subs;
 }

@@ -4,6 +4,7 @@ ghost use Rattle.network.specs.Network.{topic_of};
 ghost use Rattle.floodnet.specs.Produce.{produced};
 ghost use Rattle.floodnet.specs.Forward.{receivers, forwarded};
 
+use sets::Word;
 use super::arrays;
 use network::{Message, Network, Peer, Table};
 
@@ -14,7 +15,7 @@ pub(crate) fn produce(n: &mut Network, p: Peer, m: Message)
     ensures { n.new ≡ produced n.old p m }
 {
     let i = p.0 as usize;
-    n.pending[i] = sets::with64(n.pending[i], m.0 as u32);
+    n.pending[i] = n.pending[i].with(m.0 as u32);
 }
 
 // Forward of m by p: m moves from pending to seen at p, and becomes pending at the receivers, whose set is answered.
@@ -25,8 +26,8 @@ pub fn forward(n: &mut Network, table: &Table, p: Peer, m: Message) -> u32
 {
     let i = p.0 as usize;
     let b = m.0 as u32;
-    n.pending[i] = sets::without64(n.pending[i], b);
-    n.seen[i] = sets::with64(n.seen[i], b);
+    n.pending[i] = n.pending[i].without(b);
+    n.seen[i] = n.seen[i].with(b);
     let k = network::spot(p, table.topic_of(m));
     let near = n.known[k];
     let receivers = arrays::lacking(&n.pending, &n.seen, near, m);

@@ -7,6 +7,7 @@ ghost use Rattle.network.specs.Refusal.{number};
 ghost use Rattle.floodnet.specs.Produce.{is_new};
 ghost use Rattle.floodnet.specs.Refusals.{refusal_produce, refusal_forward, refusal_topics, refusal_leave, refusal_join};
 
+use sets::Word;
 use super::arrays;
 use network::{Message, Network, Peer, Refusal, Table};
 
@@ -23,13 +24,13 @@ pub(crate) fn of_produce(n: &Network, table: &Table, p: Peer, m: Message) -> Res
     requires { (p.0 < 32) × (m.0 < 64) × ((topic_of table.now m).0 < 32) }
     ensures { number result ≡ refusal_produce n.now table.now p m }
 {
-    if !sets::has32(n.present, p.0 as u32) {
+    if !n.present.has(p.0 as u32) {
         return Err(Refusal::PeerAbsent);
     }
     if table.origins[m.0 as usize] != p.0 {
         return Err(Refusal::NotOrigin);
     }
-    if !sets::has32(n.pubs[p.0 as usize], table.topic_of(m).0 as u32) {
+    if !n.pubs[p.0 as usize].has(table.topic_of(m).0 as u32) {
         return Err(Refusal::NotPublished);
     }
     if !is_new(n, m) {
@@ -43,10 +44,10 @@ pub(crate) fn of_forward(n: &Network, p: Peer, m: Message) -> Result<(), Refusal
     requires { (p.0 < 32) × (m.0 < 64) }
     ensures { number result ≡ refusal_forward n.now p m }
 {
-    if !sets::has32(n.present, p.0 as u32) {
+    if !n.present.has(p.0 as u32) {
         return Err(Refusal::PeerAbsent);
     }
-    if !sets::has64(n.pending[p.0 as usize], m.0 as u32) {
+    if !n.pending[p.0 as usize].has(m.0 as u32) {
         return Err(Refusal::NotPending);
     }
     Ok(())
@@ -57,7 +58,7 @@ pub(crate) fn of_topics(n: &Network, p: Peer) -> Result<(), Refusal>
     requires { p.0 < 32 }
     ensures { number result ≡ refusal_topics n.now p }
 {
-    if !sets::has32(n.present, p.0 as u32) {
+    if !n.present.has(p.0 as u32) {
         return Err(Refusal::PeerAbsent);
     }
     Ok(())
@@ -68,7 +69,7 @@ pub(crate) fn of_leave(n: &Network, p: Peer) -> Result<(), Refusal>
     requires { p.0 < 32 }
     ensures { number result ≡ refusal_leave n.now p }
 {
-    if !sets::has32(n.present, p.0 as u32) {
+    if !n.present.has(p.0 as u32) {
         return Err(Refusal::PeerAbsent);
     }
     if n.pending[p.0 as usize] != 0 {
@@ -82,13 +83,13 @@ pub(crate) fn of_join(n: &Network, p: Peer, who: u32) -> Result<(), Refusal>
     requires { p.0 < 32 }
     ensures { number result ≡ refusal_join n.now p who }
 {
-    if sets::has32(n.present, p.0 as u32) {
+    if n.present.has(p.0 as u32) {
         return Err(Refusal::PeerPresent);
     }
-    if sets::has32(who, p.0 as u32) {
+    if who.has(p.0 as u32) {
         return Err(Refusal::NamesItself);
     }
-    if sets::minus32(who, n.present) != 0 {
+    if who.minus(n.present) != 0 {
         return Err(Refusal::NamesAbsent);
     }
     Ok(())

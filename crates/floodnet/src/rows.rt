@@ -7,6 +7,7 @@ ghost use Rattle.lists.specs.Edit.{edit};
 ghost use Rattle.floodnet.specs.Topics.{noted, struck};
 ghost use Rattle.floodnet.specs.Lent.{learnt};
 
+use sets::Word;
 use network::{Peer, Topic};
 
 // `row` knows `who` for each of these topics.
@@ -17,9 +18,9 @@ pub(crate) fn row_note(known: &mut [u32; 1024], row: Peer, topics: u32, who: Pee
     let i = who.0 as u32;
     let mut left = topics;
     while left != 0 {
-        let k = network::spot(row, Topic(sets::lowest32(left) as u8));
-        known[k] = sets::with32(known[k], i);
-        left = sets::rest32(left);
+        let k = network::spot(row, Topic(left.lowest() as u8));
+        known[k] = known[k].with(i);
+        left = left.rest();
     }
 }
 
@@ -31,9 +32,9 @@ pub(crate) fn row_strike(known: &mut [u32; 1024], row: Peer, topics: u32, who: P
     let i = who.0 as u32;
     let mut left = topics;
     while left != 0 {
-        let k = network::spot(row, Topic(sets::lowest32(left) as u8));
-        known[k] = sets::without32(known[k], i);
-        left = sets::rest32(left);
+        let k = network::spot(row, Topic(left.lowest() as u8));
+        known[k] = known[k].without(i);
+        left = left.rest();
     }
 }
 
@@ -44,7 +45,7 @@ pub(crate) fn row_minus(known: &mut [u32; 1024], row: Peer, s: u32)
 {
     for t in 0..32 {
         let k = network::spot(row, Topic(t));
-        known[k] = sets::minus32(known[k], s);
+        known[k] = known[k].minus(s);
     }
 }
 
@@ -65,9 +66,9 @@ pub(crate) fn note_all(known: &mut [u32; 1024], who: u32, topics: u32, p: Peer)
 {
     let mut left = who;
     while left != 0 {
-        let q = Peer(sets::lowest32(left) as u8);
+        let q = Peer(left.lowest() as u8);
         row_note(known, q, topics, p);
-        left = sets::rest32(left);
+        left = left.rest();
     }
 }
 
@@ -78,9 +79,9 @@ pub(crate) fn strike_all(known: &mut [u32; 1024], who: u32, topics: u32, p: Peer
 {
     let mut left = who;
     while left != 0 {
-        let q = Peer(sets::lowest32(left) as u8);
+        let q = Peer(left.lowest() as u8);
         row_strike(known, q, topics, p);
-        left = sets::rest32(left);
+        left = left.rest();
     }
 }
 
@@ -89,12 +90,12 @@ pub(crate) fn drop_all(known: &mut [u32; 1024], who: u32, p: Peer)
     requires { p.0 < 32 }
     ensures { known.new ≡ edit (λ i w. when (has who (i / 32)) (strikes (only p.0)) w) known.old }
 {
-    let own = sets::with32(0, p.0 as u32);
+    let own = 0u32.with(p.0 as u32);
     let mut left = who;
     while left != 0 {
-        let q = Peer(sets::lowest32(left) as u8);
+        let q = Peer(left.lowest() as u8);
         row_minus(known, q, own);
-        left = sets::rest32(left);
+        left = left.rest();
     }
 }
 
@@ -105,9 +106,9 @@ pub(crate) fn learn(known: &mut [u32; 1024], p: Peer, subs: &[u32; 32], who: u32
 {
     let mut left = who;
     while left != 0 {
-        let q = sets::lowest32(left);
+        let q = left.lowest();
         let topics = subs[q as usize];
         row_note(known, p, topics, Peer(q as u8));
-        left = sets::rest32(left);
+        left = left.rest();
     }
 }

@@ -26,13 +26,13 @@ use endian::Little;
 pub use refusal::Refusal;
 
 // "A peer number, a topic number and a message number are separate sorts": none stands where another is meant.
-#[derive(Clone, Copy)]
+#[derive(Clone, Copy, Debug, PartialEq, Eq)]
 pub struct Peer(pub u8);
 
-#[derive(Clone, Copy)]
+#[derive(Clone, Copy, Debug, PartialEq, Eq)]
 pub struct Topic(pub u8);
 
-#[derive(Clone, Copy)]
+#[derive(Clone, Copy, Debug, PartialEq, Eq)]
 pub struct Message(pub u8);
 
 // The working state: for each peer its sets as words; `known` has the word of topic t of peer p at p * 32 + t.

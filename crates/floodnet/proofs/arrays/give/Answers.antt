@@ -7,8 +7,8 @@ use Rattle.floodnet.proofs.arrays.give.Goals as goal
 pub loop-left-preserved : goal.loop-left-preserved
 unfolding puts
 loop-left-preserved c =
-    visiting_wide c.loop-left.invariant (search rules) c.lowest64-q.ensures.0 c.rest64-left.ensures.0
-    c.with64.ensures
+    visiting_wide c.loop-left.invariant (search rules) c.lowest-q.ensures.least c.rest-left.ensures.rest
+    c.with.ensures
 
 pub returns : goal.returns
 returns c = visiting_done c.loop-left.invariant c.loop-left-test.false

@@ -9,8 +9,8 @@ loop-left-init c = visit_none _ _ _ (search rules)
 
 pub loop-left-preserved : goal.loop-left-preserved
 loop-left-preserved c =
-    lacking_more _ _ _ c.loop-left.invariant (search rules) c.lowest64-q.ensures.0 c.rest64-left.ensures.0
-    c.union64-words.ensures c.has64.ensures c.with_least64-r.ensures
+    lacking_more _ _ _ c.loop-left.invariant (search rules) c.lowest-q.ensures.least c.rest-left.ensures.rest
+    c.union-words.ensures c.has.ensures c.with_least64-r.ensures
 
 pub overflow_cast-result : goal.overflow_cast-result
 overflow_cast-result c = record { fits = visit_lt c.loop-left.invariant }

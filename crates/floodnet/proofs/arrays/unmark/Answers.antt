@@ -8,8 +8,8 @@ use Rattle.floodnet.proofs.arrays.unmark.Goals as goal
 pub loop-left-preserved : goal.loop-left-preserved
 unfolding strikes
 loop-left-preserved c =
-    visiting_more c.loop-left.invariant (search rules) c.lowest32-q.ensures.0 c.rest32-left.ensures.0
-    c.without32.ensures
+    visiting_more c.loop-left.invariant (search rules) c.lowest-q.ensures.least c.rest-left.ensures.rest
+    c.without.ensures
 
 pub returns : goal.returns
 returns c = visiting_done c.loop-left.invariant c.loop-left-test.false ∙ visits_edit _ 32 _ _ (search rules)

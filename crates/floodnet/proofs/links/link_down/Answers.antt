@@ -3,4 +3,4 @@ use Rattle.floodnet.proofs.CodeLinks.{link_down_law}
 use Rattle.floodnet.proofs.links.link_down.Goals as goal
 
 pub returns : goal.returns
-returns c = link_down_law _ _ _ c.minus32.ensures c.unmark.ensures c.drop_all.ensures c.row_minus.ensures
+returns c = link_down_law _ _ _ c.minus.ensures c.unmark.ensures c.drop_all.ensures c.row_minus.ensures

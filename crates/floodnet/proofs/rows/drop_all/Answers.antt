@@ -11,7 +11,7 @@ loop-left-init c = picking_none _ _ _ _ (search rules) rows_none
 
 pub loop-left-preserved : goal.loop-left-preserved
 loop-left-preserved c =
-    dropping_row _ c.loop-left.invariant (search rules) c.lowest32.ensures.0 c.rest32-left.ensures.0 c.row_minus.ensures
+    dropping_row _ c.loop-left.invariant (search rules) c.lowest.ensures.least c.rest-left.ensures.rest c.row_minus.ensures
 
 pub returns : goal.returns
-returns c = along_done c.loop-left.invariant c.loop-left-test.false ∙ rows_dropped _ _ _ _ c.with32-own.ensures
+returns c = along_done c.loop-left.invariant c.loop-left-test.false ∙ rows_dropped _ _ _ _ c.with-own.ensures

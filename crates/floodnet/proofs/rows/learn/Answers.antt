@@ -9,7 +9,7 @@ loop-left-init c = along_none _ _ _ (search rules) (learnt_none _ _)
 
 pub loop-left-preserved : goal.loop-left-preserved
 loop-left-preserved c =
-    learning _ _ c.loop-left.invariant (search rules) c.lowest32-q.ensures.0 c.rest32-left.ensures.0 c.row_note.ensures
+    learning _ _ c.loop-left.invariant (search rules) c.lowest-q.ensures.least c.rest-left.ensures.rest c.row_note.ensures
 
 pub returns : goal.returns
 returns c = along_done c.loop-left.invariant c.loop-left-test.false

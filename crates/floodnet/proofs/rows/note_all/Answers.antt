@@ -12,7 +12,7 @@ loop-left-init c = picking_none _ _ _ _ (search rules) (inside_no_peer _)
 
 pub loop-left-preserved : goal.loop-left-preserved
 loop-left-preserved c =
-    noting_row _ _ (puts_twice _) c.loop-left.invariant (search rules) c.lowest32.ensures.0 c.rest32-left.ensures.0 (c.row_note.ensures ∙ sym (inside_noted _ _ _ _))
+    noting_row _ _ (puts_twice _) c.loop-left.invariant (search rules) c.lowest.ensures.least c.rest-left.ensures.rest (c.row_note.ensures ∙ sym (inside_noted _ _ _ _))
 
 pub returns : goal.returns
 returns c = along_done c.loop-left.invariant c.loop-left-test.false ∙ inside_noted _ _ _ _

@@ -11,7 +11,7 @@ loop-t-init c = (search rules, row_none _ _ _)
 pub loop-t-preserved : goal.loop-t-preserved
 unfolding strikes
 loop-t-preserved c =
-    (search rules, row_more _ _ _ _ (search rules) c.loop-t.invariant.1 c.spot-k.ensures c.minus32.ensures)
+    (search rules, row_more _ _ _ _ (search rules) c.loop-t.invariant.1 c.spot-k.ensures c.minus.ensures)
 
 pub returns : goal.returns
 returns c = row_all _ _ _ _ c.loop-t.invariant.1 (omega arith)

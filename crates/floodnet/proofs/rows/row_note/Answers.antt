@@ -13,7 +13,7 @@ loop-left-init c = picking_none _ _ _ _ (search rules) (inside_no_topic _)
 pub loop-left-preserved : goal.loop-left-preserved
 unfolding puts
 loop-left-preserved c =
-    noting _ _ c.loop-left.invariant (search rules) c.lowest32.ensures.0 c.rest32-left.ensures.0 c.spot-k.ensures c.with32.ensures
+    noting _ _ c.loop-left.invariant (search rules) c.lowest.ensures.least c.rest-left.ensures.rest c.spot-k.ensures c.with.ensures
 
 pub returns : goal.returns
 returns c = along_done c.loop-left.invariant c.loop-left-test.false ∙ inside_noted _ _ _ _

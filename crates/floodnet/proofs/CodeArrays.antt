@@ -12,8 +12,8 @@ use Rattle.sets.specs.Set.{has, union, minus, only, puts, strikes, with_if, sift
 use Rattle.sets.proofs.laws.Bools.{bool2, eqb_same}
 use Rattle.sets.proofs.laws.Members.{has_union, has_minus, has_none, has_only, has_with, has_with_other, ext}
 use Rattle.sets.proofs.laws.Build.{has_sifted}
-use Rattle.sets.proofs.laws.Lowest.{least_narrow, rest_narrow}
-pub use Rattle.sets.proofs.laws.Sizes.{size_rest}
+use Rattle.sets.specs.Rising.{Takes}
+use Rattle.sets.proofs.laws.Lowest.{takes_narrow}
 use Rattle.sets.proofs.laws.Visits.{Visit, visit_put, visit_done}
 use Rattle.lists.specs.Edit.{edit}
 use Rattle.network.specs.declared.Peer.{Peer}
@@ -36,26 +36,18 @@ lacks_left s m pending seen h =
     ∙ bool2 (λ (x y : Bool). x && not (x && y) ≡ x && not y) refl refl refl refl (has s i) (holding pending seen m i)))
 
 -- a turn: q, the least of those left, is put in where its two words together do not have m
-pub lacking_more : {s left left' r r' q w : ℕ} {b : Bool} (pending seen : List ℕ) (m : ℕ) → Visit 32 s left r (lacks pending seen m) → 0 < left → q ≡ lowest 64 left
-    → left' ≡ minus left (only (lowest 64 left)) → w ≡ union (get_or pending q 0) (get_or seen q 0) → b ≡ has w m → r' ≡ with_if (not b) (lowest 64 left) r
+pub lacking_more : {s left left' r r' q w : ℕ} {b : Bool} (pending seen : List ℕ) (m : ℕ) → Visit 32 s left r (lacks pending seen m) → Takes 64 left q left'
+    → w ≡ union (get_or pending q 0) (get_or seen q 0) → b ≡ has w m → r' ≡ with_if (not b) q r
     → Visit 32 s left' r' (lacks pending seen m)
 unfolding lacks holding
-lacking_more {r = r} {q = q} {b = b} pending seen m v h eq el ew eb er =
-    visit_put v h (least_narrow h v.below eq).0 (rest_narrow h v.below el)
-    (er ∙ ap (λ (x : ℕ). with_if (not b) x r) (sym eq)
-    ∙ ap (λ (x : Bool). with_if (not x) q r) (eb ∙ ap (λ (x : ℕ). has x m) ew ∙ has_union (get_or pending q 0) (get_or seen q 0) m))
+lacking_more {r = r} {q = q} {b = b} pending seen m v t ew eb er =
+    visit_put v (takes_narrow v.below t)
+    (er ∙ ap (λ (x : Bool). with_if (not x) q r) (eb ∙ ap (λ (x : ℕ). has x m) ew ∙ has_union (get_or pending q 0) (get_or seen q 0) m))
 
 -- after the last turn
 pub lacking_done : {s left r : ℕ} (pending seen : List ℕ) (m : ℕ) → Visit 32 s left r (lacks pending seen m) → left ≡ 0 → s < 2 ^ 32
     → r ≡ minus s (sift 32 s (holding pending seen m))
 lacking_done {s} pending seen m v e h = visit_done v e ∙ lacks_left s m pending seen h
-
--- ---- what the loops of src/arrays.rt name: the least of those left is a peer, and one fewer is left without it
-
-pub lowest_narrow : (w : ℕ) → 0 < w → w < 2 ^ 32 → lowest 64 w < 32
-lowest_narrow w p h = (least_narrow {w = w} p h refl).1
-
-pub ruleset leasts = (lowest_narrow, size_rest)
 
 -- ---- rows of `known`: the word of topic t at peer q stands at q * 32 + t
 
@@ -95,9 +87,9 @@ next_inside r t q new small = record {
     go i d false e = rw (has_only r (i / 32), e) refl
 
 -- a turn of `row_note` and `row_strike`: h is done for the topic q
-pub noting : {s left left' q k v : ℕ} {l₀ l : List ℕ} (r : ℕ) (h : ℕ → ℕ) → Picking s left (inside (only r)) h l₀ l → 0 < left → q ≡ lowest 32 left
-    → left' ≡ minus left (only (lowest 32 left)) → k ≡ r * 32 + q → v ≡ h (get_or l k 0) → Picking s left' (inside (only r)) h l₀ (set l k v)
-noting {q = q} {k = k} r h a b eq el ek ev = picking_store (inside (only r)) h k a b eq el ev (λ t n c. rw ek (next_inside r t q n c))
+pub noting : {s left left' q k v : ℕ} {l₀ l : List ℕ} (r : ℕ) (h : ℕ → ℕ) → Picking s left (inside (only r)) h l₀ l → Takes 32 left q left'
+    → k ≡ r * 32 + q → v ≡ h (get_or l k 0) → Picking s left' (inside (only r)) h l₀ (set l k v)
+noting {q = q} {k = k} r h a takes ek ev = picking_store (inside (only r)) h k a takes ev (λ t n c. rw ek (next_inside r t q n c))
 
 -- such edits in the words of Topics
 pub inside_noted : (s topics : ℕ) (p : Peer) (l : List ℕ) → edit (picks (inside s topics) (puts (only p.0))) l ≡ noted s topics p l

@@ -8,7 +8,8 @@ use lib.ListN.{get_or, set}
 use Rattle.sets.specs.Set.{has, union, minus, only, when, puts, strikes, lowest}
 use Rattle.sets.proofs.laws.Bools.{bool2}
 use Rattle.sets.proofs.laws.Members.{membership, ext}
-use Rattle.sets.proofs.laws.Lowest.{lowest_has, lowest_lt}
+use Rattle.sets.specs.Rising.{Takes}
+use Rattle.sets.proofs.laws.Lowest.{takes_has}
 use Rattle.sets.proofs.laws.Visits.{visit_new}
 use Rattle.lists.specs.Edit.{edit}
 use Rattle.lists.specs.laws.Edit.{edit_store, edit_then, edit_alike}
@@ -66,30 +67,27 @@ abbrev pub Picking : ℕ → ℕ → (ℕ → ℕ → Bool) → (ℕ → ℕ) �
 Picking s left b h l₀ l = Along s left (λ t. picks (b t) h) l₀ l
 
 -- before the first turn
-pub picking_none : (s : ℕ) (b : ℕ → ℕ → Bool) (h : ℕ → ℕ) (l : List ℕ) → s < 2 ^ 32 → ((i : ℕ) → b 0 i ≡ false) → Picking s s b h l l
-picking_none s b h l c e = along_none s (λ t. picks (b t) h) l c (λ i x. picks_none (b 0) h i x (e i))
+pub picking_none : {s left : ℕ} (b : ℕ → ℕ → Bool) (h : ℕ → ℕ) (l : List ℕ) → s < 2 ^ 32 → left ≡ s → ((i : ℕ) → b 0 i ≡ false) → Picking s left b h l l
+picking_none b h l c z e = along_none (λ t. picks (b t) h) l c z (λ i x. picks_none (b 0) h i x (e i))
 
 -- a turn that stores at k
-pub picking_store : {s left left' q v : ℕ} {l₀ l : List ℕ} (b : ℕ → ℕ → Bool) (h : ℕ → ℕ) (k : ℕ) → Picking s left b h l₀ l → 0 < left → q ≡ lowest 32 left
-    → left' ≡ minus left (only (lowest 32 left)) → v ≡ h (get_or l k 0) → ((t : ℕ) → has t q ≡ false → q < 32 → Next (b t) (b (union t (only q))) k)
+pub picking_store : {s left left' q v : ℕ} {l₀ l : List ℕ} (b : ℕ → ℕ → Bool) (h : ℕ → ℕ) (k : ℕ) → Picking s left b h l₀ l → Takes 32 left q left'
+    → v ≡ h (get_or l k 0) → ((t : ℕ) → has t q ≡ false → q < 32 → Next (b t) (b (union t (only q))) k)
     → Picking s left' b h l₀ (set l k v)
-picking_store {s} {left} {left'} {q} {v} {l₀} {l} b h k a p eq el ev next =
-    along_more a p eq el
-    (ap (set l k) ev ∙ ap (λ (x : List ℕ). set x k (h (get_or x k 0))) a.made ∙ picks_store (b t) (b (union t (only q))) h l₀ k (next t new small))
+picking_store {s} {left} {left'} {q} {v} {l₀} {l} b h k a takes ev next =
+    along_more a takes
+    (ap (set l k) ev ∙ ap (λ (x : List ℕ). set x k (h (get_or x k 0))) a.made ∙ picks_store (b t) (b (union t (only q))) h l₀ k (next t new takes.below))
   where
     t : ℕ
     t = minus s left
 
     new : has t q ≡ false
-    new = visit_new left s q (ap (has left) eq ∙ lowest_has 32 left p a.below)
-
-    small : q < 32
-    small = rw eq (lowest_lt 32 left p a.below)
+    new = visit_new left s q (takes_has a.below takes)
 
 -- a turn that edits at the places d
-pub picking_edit : {s left left' q : ℕ} {l₀ l l' : List ℕ} (b : ℕ → ℕ → Bool) (h : ℕ → ℕ) (d : ℕ → Bool) → ((x : ℕ) → h (h x) ≡ h x) → Picking s left b h l₀ l → 0 < left
-    → q ≡ lowest 32 left → left' ≡ minus left (only (lowest 32 left)) → l' ≡ edit (picks d h) l → ((t i : ℕ) → b (union t (only q)) i ≡ b t i || d i)
+pub picking_edit : {s left left' q : ℕ} {l₀ l l' : List ℕ} (b : ℕ → ℕ → Bool) (h : ℕ → ℕ) (d : ℕ → Bool) → ((x : ℕ) → h (h x) ≡ h x) → Picking s left b h l₀ l
+    → Takes 32 left q left' → l' ≡ edit (picks d h) l → ((t i : ℕ) → b (union t (only q)) i ≡ b t i || d i)
     → Picking s left' b h l₀ l'
-picking_edit {s} {left} {left'} {q} {l₀} {l} {l'} b h d twice a p eq el e both =
-    along_more a p eq el
+picking_edit {s} {left} {left'} {q} {l₀} {l} {l'} b h d twice a takes e both =
+    along_more a takes
     (e ∙ ap (edit (picks d h)) a.made ∙ picks_more (b (minus s left)) d (b (union (minus s left) (only q))) h l₀ twice (both (minus s left)))

@@ -7,7 +7,8 @@ use Prim.Native.Nat.{ℕ, ◌^◌, ◌<◌}
 use lib.ListN.{get_or}
 use Rattle.sets.specs.Set.{has, union, minus, only, Subset, lowest}
 use Rattle.sets.proofs.laws.Bounds.{minus_lt}
-use Rattle.sets.proofs.laws.Lowest.{lowest_has}
+use Rattle.sets.specs.Rising.{Takes}
+use Rattle.sets.proofs.laws.Lowest.{takes_has}
 use Rattle.sets.proofs.laws.Visits.{minus_self, minus_none, subset_self, subset_step, visit_step}
 use Rattle.lists.specs.Edit.{edit}
 use Rattle.lists.specs.laws.Edit.{edit_none}
@@ -19,27 +20,27 @@ pub record Along (s left : ℕ) (f : ℕ → ℕ → ℕ → ℕ) (l₀ l : List
   pub made : l ≡ edit (f (minus s left)) l₀
 
 -- before the first turn
-pub along_none : (s : ℕ) (f : ℕ → ℕ → ℕ → ℕ) (l : List ℕ) → s < 2 ^ 32 → ((i x : ℕ) → f 0 i x ≡ x) → Along s s f l l
-along_none s f l b h = record {
-  below = b;
-  within = subset_self s;
-  made = edit_none (f (minus s s)) l (λ i. ap (λ (v : ℕ). f v i (get_or l i 0)) (minus_self s) ∙ h i (get_or l i 0));
+pub along_none : {s left : ℕ} (f : ℕ → ℕ → ℕ → ℕ) (l : List ℕ) → s < 2 ^ 32 → left ≡ s → ((i x : ℕ) → f 0 i x ≡ x) → Along s left f l l
+along_none {s} f l b e h = record {
+  below = rw e b;
+  within = rw e (subset_self s);
+  made = rw e (edit_none (f (minus s s)) l (λ i. ap (λ (v : ℕ). f v i (get_or l i 0)) (minus_self s) ∙ h i (get_or l i 0)));
 }
 
 -- q, the least of what was left, is visited
-pub along_more : {s left left' q : ℕ} {f : ℕ → ℕ → ℕ → ℕ} {l₀ l l' : List ℕ} → Along s left f l₀ l → 0 < left → q ≡ lowest 32 left
-    → left' ≡ minus left (only (lowest 32 left)) → l' ≡ edit (f (union (minus s left) (only q))) l₀ → Along s left' f l₀ l'
-along_more {s} {left} {left'} {q} {f} {l₀} {l} {l'} a p eq el e = record {
-  below = rw el (minus_lt 32 left (only (lowest 32 left)) a.below);
-  within = rw el (subset_step left s (only (lowest 32 left)) a.within);
+pub along_more : {s left left' q : ℕ} {f : ℕ → ℕ → ℕ → ℕ} {l₀ l l' : List ℕ} → Along s left f l₀ l → Takes 32 left q left'
+    → l' ≡ edit (f (union (minus s left) (only q))) l₀ → Along s left' f l₀ l'
+along_more {s} {left} {left'} {q} {f} {l₀} {l} {l'} a t e = record {
+  below = rw t.rest (minus_lt 32 left (only (lowest 32 left)) a.below);
+  within = rw t.rest (subset_step left s (only (lowest 32 left)) a.within);
   made = e ∙ ap (λ (v : ℕ). edit (f v) l₀) (sym (visit_step left s q a.within mine) ∙ ap (minus s) (sym gone));
 }
   where
     mine : has left q ≡ true
-    mine = ap (has left) eq ∙ lowest_has 32 left p a.below
+    mine = takes_has a.below t
 
     gone : left' ≡ minus left (only q)
-    gone = el ∙ ap (λ (x : ℕ). minus left (only x)) (sym eq)
+    gone = t.rest ∙ ap (λ (x : ℕ). minus left (only x)) (sym t.least)
 
 -- after the last turn
 pub along_done : {s left : ℕ} {f : ℕ → ℕ → ℕ → ℕ} {l₀ l : List ℕ} → Along s left f l₀ l → left ≡ 0 → l ≡ edit (f s) l₀

@@ -9,7 +9,8 @@ use Rattle.sets.specs.Set.{has, union, minus, only, when, puts, strikes, with_if
 use Rattle.sets.proofs.laws.Bools.{bool2}
 use Rattle.sets.proofs.laws.Members.{membership, has_union, has_none, has_only, ext}
 use Rattle.sets.proofs.laws.Build.{has_with_if}
-use Rattle.sets.proofs.laws.Lowest.{lowest_has, lowest_lt}
+use Rattle.sets.specs.Rising.{Takes}
+use Rattle.sets.proofs.laws.Lowest.{takes_has}
 use Rattle.sets.proofs.laws.Visits.{set_of_none, visit_step, sift_step}
 use Rattle.lists.specs.Edit.{edit}
 use Rattle.lists.specs.laws.Edit.{edit_then}
@@ -33,10 +34,10 @@ inside_more q topics t i = ap (λ (b : Bool). b && has topics (i % 32)) (has_uni
     go false b c = refl
 
 -- a turn of `note_all` and `strike_all`: h is done in the row of q
-pub noting_row : {s left left' : ℕ} {q : Peer} {l₀ l l' : List ℕ} (topics : ℕ) (h : ℕ → ℕ) → ((x : ℕ) → h (h x) ≡ h x) → Picking s left (λ t. inside t topics) h l₀ l → 0 < left
-    → q.0 ≡ lowest 32 left → left' ≡ minus left (only (lowest 32 left)) → l' ≡ edit (picks (inside (only q.0) topics) h) l → Picking s left' (λ t. inside t topics) h l₀ l'
-noting_row {q = q} topics h twice a b eq el e =
-    picking_edit (λ t. inside t topics) h (inside (only q.0) topics) twice a b eq el e (λ t i. inside_more q.0 topics t i)
+pub noting_row : {s left left' : ℕ} {q : Peer} {l₀ l l' : List ℕ} (topics : ℕ) (h : ℕ → ℕ) → ((x : ℕ) → h (h x) ≡ h x) → Picking s left (λ t. inside t topics) h l₀ l
+    → Takes 32 left q.0 left' → l' ≡ edit (picks (inside (only q.0) topics) h) l → Picking s left' (λ t. inside t topics) h l₀ l'
+noting_row {q = q} topics h twice a takes e =
+    picking_edit (λ t. inside t topics) h (inside (only q.0) topics) twice a takes e (λ t i. inside_more q.0 topics t i)
 
 -- the rows of the peers s
 unfoldable pub rows : ℕ → ℕ → Bool
@@ -53,10 +54,10 @@ unfolding rows
 rows_more q t i = has_union t (only q) (i / 32) ∙ ap (λ (b : Bool). has t (i / 32) || b) (has_only q (i / 32) ∙ eqb_sym q (i / 32))
 
 -- a turn of `drop_all`
-pub dropping_row : {s left left' : ℕ} {q : Peer} {l₀ l l' : List ℕ} (p : ℕ) → Picking s left rows (strikes p) l₀ l → 0 < left → q.0 ≡ lowest 32 left
-    → left' ≡ minus left (only (lowest 32 left)) → l' ≡ edit (λ i w. when (eqb (i / 32) q.0) (strikes p) w) l → Picking s left' rows (strikes p) l₀ l'
-dropping_row {q = q} p a b eq el e =
-    picking_edit rows (strikes p) (λ i. eqb (i / 32) q.0) (strikes_twice p) a b eq el e
+pub dropping_row : {s left left' : ℕ} {q : Peer} {l₀ l l' : List ℕ} (p : ℕ) → Picking s left rows (strikes p) l₀ l → Takes 32 left q.0 left'
+    → l' ≡ edit (λ i w. when (eqb (i / 32) q.0) (strikes p) w) l → Picking s left' rows (strikes p) l₀ l'
+dropping_row {q = q} p a takes e =
+    picking_edit rows (strikes p) (λ i. eqb (i / 32) q.0) (strikes_twice p) a takes e
     (λ t i. rows_more q.0 t i)
 
 -- all of it, where `own` was made from nothing
@@ -91,11 +92,11 @@ with_later b q w s = ext (with_if b q (union w s)) (union w (with_if b q s)) (λ
     go false y z = refl
 
 -- a turn of `learn`
-pub learning : {s left left' q : ℕ} {l₀ l l' : List ℕ} (p : ℕ) (subs : List ℕ) → Along s left (learnt p subs) l₀ l → 0 < left → q ≡ lowest 32 left
-    → left' ≡ minus left (only (lowest 32 left)) → l' ≡ noted (only p) (get_or subs q 0) (record { 0 = q }) l → Along s left' (learnt p subs) l₀ l'
+pub learning : {s left left' q : ℕ} {l₀ l l' : List ℕ} (p : ℕ) (subs : List ℕ) → Along s left (learnt p subs) l₀ l → Takes 32 left q left'
+    → l' ≡ noted (only p) (get_or subs q 0) (record { 0 = q }) l → Along s left' (learnt p subs) l₀ l'
 unfolding learnt noted when puts
-learning {s} {left} {left'} {q} {l₀} {l} {l'} p subs a b eq el e =
-    along_more a b eq el (e ∙ ap (edit note) a.made ∙ edit_then (learnt p subs t) note (learnt p subs (union t (only q))) l₀ step)
+learning {s} {left} {left'} {q} {l₀} {l} {l'} p subs a takes e =
+    along_more a takes (e ∙ ap (edit note) a.made ∙ edit_then (learnt p subs t) note (learnt p subs (union t (only q))) l₀ step)
   where
     t : ℕ
     t = minus s left
@@ -104,15 +105,12 @@ learning {s} {left} {left'} {q} {l₀} {l} {l'} p subs a b eq el e =
     note i w = with_if (has (only p) (i / 32) && has (get_or subs q 0) (i % 32)) q w
 
     mine : has left q ≡ true
-    mine = ap (has left) eq ∙ lowest_has 32 left b a.below
-
-    small : q < 32
-    small = rw eq (lowest_lt 32 left b a.below)
+    mine = takes_has a.below takes
 
     grown : (i : ℕ) → sift 32 (union t (only q)) (λ j. has (get_or subs j 0) i) ≡ with_if (has (get_or subs q 0) i) q (sift 32 t (λ j. has (get_or subs j 0) i))
     grown i =
         ap (λ (x : ℕ). sift 32 x (λ j. has (get_or subs j 0) i)) (sym (visit_step left s q a.within mine))
-        ∙ sift_step 32 left s q (λ j. has (get_or subs j 0) i) small a.within mine
+        ∙ sift_step 32 left s q (λ j. has (get_or subs j 0) i) takes.below a.within mine
 
     step : (i x : ℕ) → note i (learnt p subs t i x) ≡ learnt p subs (union t (only q)) i x
     step i x = ap (λ (c : Bool). with_if (c && has (get_or subs q 0) (i % 32)) q (learnt p subs t i x)) (has_only p (i / 32) ∙ eqb_sym p (i / 32)) ∙ go (eqb (i / 32) p)

@@ -1,9 +1,7 @@
 // Loops over a lent array of 32 words, one for each peer: the members of a set are visited, the least first, and nobody else. The
 // loops' turns are laws of the crates below: `Visit` (sets, proofs/laws/Visits.antt) for a set that is found, `Visiting` (lists,
-// specs/laws/Visit.antt) for an array that is changed. Each loop's measure is the number of members left, so it has as many turns as members.
+// specs/laws/Visit.antt) for an array that is changed. Each loop has as many turns as there are members.
 // A forward keeps those left in a word of 64 bits, from which some machines take the least in a step less (docs/BENCH.md).
-#![tactic(auto, using(crate::proofs::CodeArrays::leasts))]
-
 ghost use Rattle.std.specs.Prelude.{◌≡◌, ◌<◌};
 ghost use Rattle.sets.specs.Set.{has, minus, only, when, puts, strikes, with_if, sift};
 ghost use Rattle.sets.specs.Rising.{members};
@@ -20,15 +18,12 @@ pub(crate) fn lacking(pending: &[u64; 32], seen: &[u64; 32], s: u32, m: Message)
     ensures { result ≡ minus s (sift 32 s (holding pending.now seen.now m.0)) }
 {
     let i = m.0 as u32;
-    let mut r: u64 = 0;
-    let mut left = s as u64;
-    while left != 0 {
-        let q = left.lowest() as usize;
-        let words = pending[q].union(seen[q]);
-        r = sets::with_least64(r, left, !words.has(i));
-        left = left.rest();
+    let mut r: u32 = 0;
+    for q in (s as u64).members() {
+        let words = pending[q as usize].union(seen[q as usize]);
+        r = r.with_if(q, !words.has(i));
     }
-    r as u32
+    r
 }
 
 // m becomes pending at each peer of r: "take the receiving set's lowest member, found by the count of trailing zeros, until the set
@@ -38,11 +33,8 @@ pub(crate) fn give(pending: &mut [u64; 32], r: u32, m: Message)
     ensures { pending.new ≡ visits (λ q. puts (only m.0)) (members 32 r) pending.old }
 {
     let i = m.0 as u32;
-    let mut left = r as u64;
-    while left != 0 {
-        let q = left.lowest() as usize;
-        pending[q] = pending[q].with(i);
-        left = left.rest();
+    for q in (r as u64).members() {
+        pending[q as usize] = pending[q as usize].with(i);
     }
 }
 
@@ -52,11 +44,8 @@ pub(crate) fn mark(neighbours: &mut [u32; 32], who: u32, p: Peer)
     ensures { neighbours.new ≡ edit (λ q w. with_if (has who q) p.0 w) neighbours.old }
 {
     let i = p.0 as u32;
-    let mut left = who;
-    while left != 0 {
-        let q = left.lowest() as usize;
-        neighbours[q] = neighbours[q].with(i);
-        left = left.rest();
+    for q in who.members() {
+        neighbours[q as usize] = neighbours[q as usize].with(i);
     }
 }
 
@@ -66,10 +55,7 @@ pub(crate) fn unmark(neighbours: &mut [u32; 32], who: u32, p: Peer)
     ensures { neighbours.new ≡ edit (λ q w. when (has who q) (strikes (only p.0)) w) neighbours.old }
 {
     let i = p.0 as u32;
-    let mut left = who;
-    while left != 0 {
-        let q = left.lowest() as usize;
-        neighbours[q] = neighbours[q].without(i);
-        left = left.rest();
+    for q in who.members() {
+        neighbours[q as usize] = neighbours[q as usize].without(i);
     }
 }

@@ -18,7 +18,6 @@ pub mod messages; // messages.rt: what produce and forward do; the drain calls f
 mod links; // links.rt: what subscribe, unsubscribe, leave and join do
 mod refusals; // refusals.rt: what the events ask
 pub mod turns; // turns.rt: an event of each kind, asked and done; the single forward calls its own
-mod standin; // standin.rt: the kind of an event
 
 // What one event comes to: its kind, refused or not; and its outcome, which is the refusal, or the receivers of an accepted
 // forward, the set of peers that newly hold its message, and 0 for an accepted event of another kind.
@@ -46,7 +45,7 @@ pub fn step(n: &mut Network, table: &Table, e: Event) -> Turned
         Event::Join(p, j) => turns::join(n, p, j),
     };
     Turned {
-        kind: standin::kind(e),
+        kind: e.kind(),
         outcome,
     }
 }

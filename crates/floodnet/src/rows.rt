@@ -16,11 +16,9 @@ pub(crate) fn row_note(known: &mut [u32; 1024], row: Peer, topics: u32, who: Pee
     ensures { known.new ≡ noted (only row.0) topics who known.old }
 {
     let i = who.0 as u32;
-    let mut left = topics;
-    while left != 0 {
-        let k = network::spot(row, Topic(left.lowest() as u8));
+    for t in topics.members() {
+        let k = network::spot(row, Topic(t as u8));
         known[k] = known[k].with(i);
-        left = left.rest();
     }
 }
 
@@ -30,11 +28,9 @@ pub(crate) fn row_strike(known: &mut [u32; 1024], row: Peer, topics: u32, who: P
     ensures { known.new ≡ struck (only row.0) topics who known.old }
 {
     let i = who.0 as u32;
-    let mut left = topics;
-    while left != 0 {
-        let k = network::spot(row, Topic(left.lowest() as u8));
+    for t in topics.members() {
+        let k = network::spot(row, Topic(t as u8));
         known[k] = known[k].without(i);
-        left = left.rest();
     }
 }
 
@@ -64,11 +60,8 @@ pub(crate) fn note_all(known: &mut [u32; 1024], who: u32, topics: u32, p: Peer)
     requires { p.0 < 32 }
     ensures { known.new ≡ noted who topics p known.old }
 {
-    let mut left = who;
-    while left != 0 {
-        let q = Peer(left.lowest() as u8);
-        row_note(known, q, topics, p);
-        left = left.rest();
+    for q in who.members() {
+        row_note(known, Peer(q as u8), topics, p);
     }
 }
 
@@ -77,11 +70,8 @@ pub(crate) fn strike_all(known: &mut [u32; 1024], who: u32, topics: u32, p: Peer
     requires { p.0 < 32 }
     ensures { known.new ≡ struck who topics p known.old }
 {
-    let mut left = who;
-    while left != 0 {
-        let q = Peer(left.lowest() as u8);
-        row_strike(known, q, topics, p);
-        left = left.rest();
+    for q in who.members() {
+        row_strike(known, Peer(q as u8), topics, p);
     }
 }
 
@@ -91,11 +81,8 @@ pub(crate) fn drop_all(known: &mut [u32; 1024], who: u32, p: Peer)
     ensures { known.new ≡ edit (λ i w. when (has who (i / 32)) (strikes (only p.0)) w) known.old }
 {
     let own = 0u32.with(p.0 as u32);
-    let mut left = who;
-    while left != 0 {
-        let q = Peer(left.lowest() as u8);
-        row_minus(known, q, own);
-        left = left.rest();
+    for q in who.members() {
+        row_minus(known, Peer(q as u8), own);
     }
 }
 
@@ -104,11 +91,7 @@ pub(crate) fn learn(known: &mut [u32; 1024], p: Peer, subs: &[u32; 32], who: u32
     requires { p.0 < 32 }
     ensures { known.new ≡ edit (learnt p.0 subs.now who) known.old }
 {
-    let mut left = who;
-    while left != 0 {
-        let q = left.lowest();
-        let topics = subs[q as usize];
-        row_note(known, p, topics, Peer(q as u8));
-        left = left.rest();
+    for q in who.members() {
+        row_note(known, p, subs[q as usize], Peer(q as u8));
     }
 }

@@ -1,14 +1,24 @@
 -- `floodnet::arrays::give` meets its contract. Assumes nothing.
 use borrow.Author.Rules.{rules}
 use Rattle.sets.specs.Set.{puts}
-use Rattle.lists.specs.laws.Visit.{visiting_wide, visiting_done}
+use Rattle.sets.proofs.laws.Lowest.{takes_narrow}
+use Rattle.lists.specs.laws.Visit.{visiting_none, visiting_more, visiting_done}
 use Rattle.floodnet.proofs.arrays.give.Goals as goal
 
-pub loop-left-preserved : goal.loop-left-preserved
+pub loop-q-init : goal.loop-q-init
+loop-q-init c = visiting_none (search rules) (search rules)
+
+pub bounds-pending-q : goal.bounds-pending-q
+bounds-pending-q c = (takes_narrow c.loop-q.invariant.below c.in-Some.ensures.steps).below
+
+pub bounds-pending-q-in-loop-q : goal.bounds-pending-q-in-loop-q
+bounds-pending-q-in-loop-q c = (takes_narrow c.loop-q.invariant.below c.in-Some.ensures.steps).below
+
+pub loop-q-preserved : goal.loop-q-preserved
 unfolding puts
-loop-left-preserved c =
-    visiting_wide c.loop-left.invariant (search rules) c.lowest-q.ensures.least c.rest-left.ensures.rest
+loop-q-preserved c =
+    visiting_more c.loop-q.invariant (takes_narrow c.loop-q.invariant.below c.in-Some.ensures.steps)
     c.with.ensures
 
 pub returns : goal.returns
-returns c = visiting_done c.loop-left.invariant c.loop-left-test.false
+returns c = visiting_done c.loop-q.invariant c.in-None.ensures.steps.0

@@ -1,10 +1,7 @@
 -- The invariants of `floodnet::arrays::give`. Assumes nothing.
-use Rattle.sets.specs.Set.{only, puts, size}
+use Rattle.sets.specs.Set.{only, puts}
 use Rattle.lists.specs.laws.Visit.{Visiting}
 use Rattle.floodnet.proofs.arrays.give.Given as goal
 
-abbrev pub invariant-loop-left : goal.invariant-loop-left
-invariant-loop-left l = Visiting 32 l.r l.left (λ q. puts (only l.i)) l.initial.pending l.pending
-
-abbrev pub decreases-loop-left : goal.decreases-loop-left
-decreases-loop-left l = size l.left
+abbrev pub invariant-loop-q : goal.invariant-loop-q
+invariant-loop-q l = Visiting 32 l.r l.q-iterator.left (λ q. puts (only l.i)) l.initial.pending l.pending

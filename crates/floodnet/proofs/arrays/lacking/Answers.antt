@@ -1,19 +1,26 @@
 -- `floodnet::arrays::lacking` meets its contract. Assumes nothing.
 use borrow.Author.Rules.{rules}
 use Rattle.sets.proofs.laws.Visits.{visit_none, visit_lt}
+use Rattle.sets.proofs.laws.Lowest.{takes_narrow}
 use Rattle.floodnet.proofs.CodeArrays.{lacking_more, lacking_done}
 use Rattle.floodnet.proofs.arrays.lacking.Goals as goal
 
-pub loop-left-init : goal.loop-left-init
-loop-left-init c = visit_none _ _ _ (search rules)
+pub loop-q-init : goal.loop-q-init
+loop-q-init c = visit_none (search rules) (search rules)
 
-pub loop-left-preserved : goal.loop-left-preserved
-loop-left-preserved c =
-    lacking_more _ _ _ c.loop-left.invariant (search rules) c.lowest-q.ensures.least c.rest-left.ensures.rest
-    c.union-words.ensures c.has.ensures c.with_least64-r.ensures
+pub bounds-pending-q : goal.bounds-pending-q
+bounds-pending-q c = (takes_narrow c.loop-q.invariant.below c.in-Some.ensures.steps).below
 
-pub overflow_cast-result : goal.overflow_cast-result
-overflow_cast-result c = record { fits = visit_lt c.loop-left.invariant }
+pub bounds-seen-q : goal.bounds-seen-q
+bounds-seen-q c = (takes_narrow c.loop-q.invariant.below c.in-Some.ensures.steps).below
+
+pub with_if-r-requires : goal.with_if-r-requires
+with_if-r-requires c = (takes_narrow c.loop-q.invariant.below c.in-Some.ensures.steps).below
+
+pub loop-q-preserved : goal.loop-q-preserved
+loop-q-preserved c =
+    lacking_more _ _ _ c.loop-q.invariant c.in-Some.ensures.steps
+    c.union-words.ensures c.has.ensures c.with_if-r.ensures
 
 pub returns : goal.returns
-returns c = lacking_done _ _ _ c.loop-left.invariant c.loop-left-test.false (search rules)
+returns c = lacking_done _ _ _ c.loop-q.invariant c.in-None.ensures.steps.0 (search rules)

@@ -2,14 +2,17 @@
 use borrow.Author.Rules.{rules}
 use mathlib.Core.Path.{◌∙◌}
 use Rattle.sets.specs.Set.{puts}
-use Rattle.lists.specs.laws.Visit.{visiting_more, visiting_done, visits_edit}
+use Rattle.lists.specs.laws.Visit.{visiting_none, visiting_more, visiting_done, visits_edit}
 use Rattle.floodnet.proofs.arrays.mark.Goals as goal
 
-pub loop-left-preserved : goal.loop-left-preserved
+pub loop-q-init : goal.loop-q-init
+loop-q-init c = visiting_none (search rules) (search rules)
+
+pub loop-q-preserved : goal.loop-q-preserved
 unfolding puts
-loop-left-preserved c =
-    visiting_more c.loop-left.invariant (search rules) c.lowest-q.ensures.least c.rest-left.ensures.rest
+loop-q-preserved c =
+    visiting_more c.loop-q.invariant c.in-Some.ensures.steps
     c.with.ensures
 
 pub returns : goal.returns
-returns c = visiting_done c.loop-left.invariant c.loop-left-test.false ∙ visits_edit _ 32 _ _ (search rules)
+returns c = visiting_done c.loop-q.invariant c.in-None.ensures.steps.0 ∙ visits_edit _ 32 _ _ (search rules)

@@ -6,12 +6,12 @@ use Rattle.floodnet.proofs.CodeChoices.{picking_none}
 use Rattle.floodnet.proofs.CodeWalks.{rows_none, rows_dropped, dropping_row}
 use Rattle.floodnet.proofs.rows.drop_all.Goals as goal
 
-pub loop-left-init : goal.loop-left-init
-loop-left-init c = picking_none _ _ _ _ (search rules) rows_none
+pub loop-q-init : goal.loop-q-init
+loop-q-init c = picking_none _ _ _ (search rules) (search rules) rows_none
 
-pub loop-left-preserved : goal.loop-left-preserved
-loop-left-preserved c =
-    dropping_row _ c.loop-left.invariant (search rules) c.lowest.ensures.least c.rest-left.ensures.rest c.row_minus.ensures
+pub loop-q-preserved : goal.loop-q-preserved
+loop-q-preserved c =
+    dropping_row _ c.loop-q.invariant c.in-Some.ensures.steps c.row_minus.ensures
 
 pub returns : goal.returns
-returns c = along_done c.loop-left.invariant c.loop-left-test.false ∙ rows_dropped _ _ _ _ c.with-own.ensures
+returns c = along_done c.loop-q.invariant c.in-None.ensures.steps.0 ∙ rows_dropped _ _ _ _ c.with-own.ensures

@@ -4,12 +4,12 @@ use Rattle.floodnet.proofs.CodeVisit.{along_none, along_done}
 use Rattle.floodnet.proofs.CodeWalks.{learnt_none, learning}
 use Rattle.floodnet.proofs.rows.learn.Goals as goal
 
-pub loop-left-init : goal.loop-left-init
-loop-left-init c = along_none _ _ _ (search rules) (learnt_none _ _)
+pub loop-q-init : goal.loop-q-init
+loop-q-init c = along_none _ _ (search rules) (search rules) (learnt_none _ _)
 
-pub loop-left-preserved : goal.loop-left-preserved
-loop-left-preserved c =
-    learning _ _ c.loop-left.invariant (search rules) c.lowest-q.ensures.least c.rest-left.ensures.rest c.row_note.ensures
+pub loop-q-preserved : goal.loop-q-preserved
+loop-q-preserved c =
+    learning _ _ c.loop-q.invariant c.in-Some.ensures.steps c.row_note.ensures
 
 pub returns : goal.returns
-returns c = along_done c.loop-left.invariant c.loop-left-test.false
+returns c = along_done c.loop-q.invariant c.in-None.ensures.steps.0

@@ -7,13 +7,13 @@ use Rattle.floodnet.proofs.CodeChoices.{picking_none}
 use Rattle.floodnet.proofs.CodeArrays.{inside_no_topic, inside_noted, noting}
 use Rattle.floodnet.proofs.rows.row_note.Goals as goal
 
-pub loop-left-init : goal.loop-left-init
-loop-left-init c = picking_none _ _ _ _ (search rules) (inside_no_topic _)
+pub loop-t-init : goal.loop-t-init
+loop-t-init c = picking_none _ _ _ (search rules) (search rules) (inside_no_topic _)
 
-pub loop-left-preserved : goal.loop-left-preserved
+pub loop-t-preserved : goal.loop-t-preserved
 unfolding puts
-loop-left-preserved c =
-    noting _ _ c.loop-left.invariant (search rules) c.lowest.ensures.least c.rest-left.ensures.rest c.spot-k.ensures c.with.ensures
+loop-t-preserved c =
+    noting _ _ c.loop-t.invariant c.in-Some.ensures.steps c.spot-k.ensures c.with.ensures
 
 pub returns : goal.returns
-returns c = along_done c.loop-left.invariant c.loop-left-test.false ∙ inside_noted _ _ _ _
+returns c = along_done c.loop-t.invariant c.in-None.ensures.steps.0 ∙ inside_noted _ _ _ _

@@ -7,12 +7,12 @@ use Rattle.floodnet.proofs.CodeArrays.{inside_no_peer, inside_struck}
 use Rattle.floodnet.proofs.CodeWalks.{noting_row}
 use Rattle.floodnet.proofs.rows.strike_all.Goals as goal
 
-pub loop-left-init : goal.loop-left-init
-loop-left-init c = picking_none _ _ _ _ (search rules) (inside_no_peer _)
+pub loop-q-init : goal.loop-q-init
+loop-q-init c = picking_none _ _ _ (search rules) (search rules) (inside_no_peer _)
 
-pub loop-left-preserved : goal.loop-left-preserved
-loop-left-preserved c =
-    noting_row _ _ (strikes_twice _) c.loop-left.invariant (search rules) c.lowest.ensures.least c.rest-left.ensures.rest (c.row_strike.ensures ∙ sym (inside_struck _ _ _ _))
+pub loop-q-preserved : goal.loop-q-preserved
+loop-q-preserved c =
+    noting_row _ _ (strikes_twice _) c.loop-q.invariant c.in-Some.ensures.steps (c.row_strike.ensures ∙ sym (inside_struck _ _ _ _))
 
 pub returns : goal.returns
-returns c = along_done c.loop-left.invariant c.loop-left-test.false ∙ inside_struck _ _ _ _
+returns c = along_done c.loop-q.invariant c.in-None.ensures.steps.0 ∙ inside_struck _ _ _ _

@@ -4,8 +4,5 @@ use Rattle.floodnet.proofs.CodeChoices.{Picking}
 use Rattle.floodnet.proofs.CodeArrays.{inside}
 use Rattle.floodnet.proofs.rows.strike_all.Given as goal
 
-abbrev pub invariant-loop-left : goal.invariant-loop-left
-invariant-loop-left l = Picking l.who l.left (λ t. inside t l.topics) (strikes (only l.p.0)) l.initial.known l.known
-
-abbrev pub decreases-loop-left : goal.decreases-loop-left
-decreases-loop-left l = l.left
+abbrev pub invariant-loop-q : goal.invariant-loop-q
+invariant-loop-q l = Picking l.who l.q-iterator.left (λ t. inside t l.topics) (strikes (only l.p.0)) l.initial.known l.known

@@ -1,11 +1,11 @@
 // Reading a state: sound ones come back byte for byte, and each damaged one is refused with the number, the place and the detail of
-// document 02's E1 and answers the blank state.
+// document 02's E1 and leaves the blank state where another stood.
 use crate::{print, states};
 use network::Network;
 use std::io;
 
 // The network is the blank one: its bytes are 5,120 zeros.
-fn is_blank(n: Network) -> bool {
+fn is_blank(n: &Network) -> bool {
     print::same(&states::bytes(n), &[0u8; 5120])
 }
 
@@ -20,19 +20,13 @@ fn damaged(
     x: u8,
 ) -> io::Result<()> {
     let b = states::set(state, p, at, x);
-    let opened = network::read(&b);
+    let mut n = states::before();
+    let read = n.read(&b);
     print::word(rt, "read, rule ", rule)?;
     print::word(rt, " at ", fault)?;
     print::word(rt, ", record ", p as u64)?;
     print::byte(rt, at, x)?;
-    print::detailed(
-        rt,
-        opened.number,
-        opened.place,
-        opened.detail,
-        "blank",
-        is_blank(opened.network),
-    )
+    print::detailed(rt, read, "blank", is_blank(&n))
 }
 
 // The same, where the byte is one of the record at fault.
@@ -46,36 +40,24 @@ fn at_last(rt: &impl Print, rule: u64, state: [u8; 5120], at: usize, x: u8) -> i
 
 // The state is read and what was read is written over other bytes.
 fn round(rt: &impl Print, state: [u8; 5120]) -> io::Result<()> {
-    let opened = network::read(&state);
+    let mut n = states::before();
+    let read = n.read(&state);
     print!(rt; "read and write, sound")?;
-    print::detailed(
-        rt,
-        opened.number,
-        opened.place,
-        opened.detail,
-        "same",
-        print::same(&states::bytes(opened.network), &state),
-    )
+    print::detailed(rt, read, "same", print::same(&states::bytes(&n), &state))
 }
 
 pub(crate) fn accepted(rt: &impl Print) -> io::Result<()> {
     round(rt, [0u8; 5120])?;
-    round(rt, states::bytes(states::alone()))?;
+    round(rt, states::bytes(&states::alone()))?;
     round(rt, states::linked_by_hand())
 }
 
 // A wrong length is found before the unsound records.
 fn length(rt: &impl Print, state: &[u8]) -> io::Result<()> {
-    let opened = network::read(state);
+    let mut n = states::before();
+    let read = n.read(state);
     print::word(rt, "read, length ", state.len() as u64)?;
-    print::detailed(
-        rt,
-        opened.number,
-        opened.place,
-        opened.detail,
-        "blank",
-        is_blank(opened.network),
-    )
+    print::detailed(rt, read, "blank", is_blank(&n))
 }
 
 pub(crate) fn lengths(rt: &impl Print) -> io::Result<()> {
@@ -88,14 +70,14 @@ pub(crate) fn lengths(rt: &impl Print) -> io::Result<()> {
 
 // At the last record in a state where nobody lists 31: with byte 0 no longer 1 it would be an absent neighbour of a lower record.
 pub(crate) fn rule_20(rt: &impl Print) -> io::Result<()> {
-    let b = states::bytes(states::linked());
+    let b = states::bytes(&states::linked());
     at_first(rt, 20, b, 0, 2)?;
     at_first(rt, 20, b, 0, 255)?;
     at_first(rt, 20, b, 1, 1)?;
     at_first(rt, 20, b, 2, 1)?;
     at_first(rt, 20, b, 3, 128)?;
     at_last(rt, 20, b, 1, 1)?;
-    let b = states::bytes(states::alone());
+    let b = states::bytes(&states::alone());
     at_last(rt, 20, b, 0, 2)?;
     at_last(rt, 20, b, 0, 255)?;
     at_last(rt, 20, b, 1, 1)?;
@@ -105,7 +87,7 @@ pub(crate) fn rule_20(rt: &impl Print) -> io::Result<()> {
 
 // A present record loses its presence; then one byte of each field of an absent one is set.
 pub(crate) fn rule_21_first(rt: &impl Print) -> io::Result<()> {
-    at_first(rt, 21, states::bytes(states::linked()), 0, 0)?;
+    at_first(rt, 21, states::bytes(&states::linked()), 0, 0)?;
     let b = [0u8; 5120];
     at_first(rt, 21, b, 4, 1)?;
     at_first(rt, 21, b, 8, 1)?;
@@ -119,7 +101,7 @@ pub(crate) fn rule_21_first(rt: &impl Print) -> io::Result<()> {
 }
 
 pub(crate) fn rule_21_last(rt: &impl Print) -> io::Result<()> {
-    at_last(rt, 21, states::bytes(states::alone()), 0, 0)?;
+    at_last(rt, 21, states::bytes(&states::alone()), 0, 0)?;
     let b = [0u8; 5120];
     at_last(rt, 21, b, 4, 1)?;
     at_last(rt, 21, b, 8, 1)?;
@@ -134,10 +116,10 @@ pub(crate) fn rule_21_last(rt: &impl Print) -> io::Result<()> {
 
 // The known subscribers are set as well, so that no other rule is broken.
 pub(crate) fn rule_22(rt: &impl Print) -> io::Result<()> {
-    let b = states::bytes(states::linked());
+    let b = states::bytes(&states::linked());
     let b = states::set(b, 0, 36, 1);
     at_first(rt, 22, b, 12, 3)?;
-    let b = states::bytes(states::linked());
+    let b = states::bytes(&states::linked());
     let b = states::set(b, 31, 35, 128);
     let b = states::set(b, 31, 159, 128);
     at_last(rt, 22, b, 15, 128)
@@ -145,10 +127,10 @@ pub(crate) fn rule_22(rt: &impl Print) -> io::Result<()> {
 
 // 0 lists the absent 2, which lists 0 (so 2 is unsound too, and higher); 31 lists the absent and empty 2; 31 is absent and 0 lists it.
 pub(crate) fn rule_23(rt: &impl Print) -> io::Result<()> {
-    let b = states::bytes(states::linked());
+    let b = states::bytes(&states::linked());
     let b = states::set(b, 2, 12, 1);
     at_first(rt, 23, b, 12, 6)?;
-    let b = states::bytes(states::linked());
+    let b = states::bytes(&states::linked());
     at_last(rt, 23, b, 12, 5)?;
     damaged(rt, 23, 0, b, 31, 0, 0)?;
     damaged(rt, 23, 0, b, 31, 0, 2)
@@ -157,13 +139,13 @@ pub(crate) fn rule_23(rt: &impl Print) -> io::Result<()> {
 // "if p lists q but q doesn't list p, p is unsound on that ground and q isn't": 0 lists 1 and 1 nobody; 31 lists 1 and 1 only 0; 31 lists
 // 0 and 0 only 1. The known subscribers follow each time, so that no other rule is broken and q, which is lower twice, is sound.
 pub(crate) fn rule_24(rt: &impl Print) -> io::Result<()> {
-    let b = states::bytes(states::linked());
+    let b = states::bytes(&states::linked());
     let b = states::set(b, 1, 36, 0);
     damaged(rt, 24, 0, b, 1, 12, 0)?;
-    let b = states::bytes(states::linked());
+    let b = states::bytes(&states::linked());
     let b = states::set(b, 31, 32, 2);
     at_last(rt, 24, b, 12, 3)?;
-    let b = states::bytes(states::linked());
+    let b = states::bytes(&states::linked());
     let b = states::set(b, 0, 35, 0);
     let b = states::set(b, 0, 159, 0);
     damaged(rt, 24, 31, b, 0, 15, 0)
@@ -171,7 +153,7 @@ pub(crate) fn rule_24(rt: &impl Print) -> io::Result<()> {
 
 // A subscriber missing, at the first and the last topic; a peer that is no neighbour; a neighbour that did not subscribe.
 pub(crate) fn rule_25(rt: &impl Print) -> io::Result<()> {
-    let b = states::bytes(states::linked());
+    let b = states::bytes(&states::linked());
     at_first(rt, 25, b, 32, 0)?;
     at_first(rt, 25, b, 159, 0)?;
     at_first(rt, 25, b, 32, 6)?;
@@ -183,7 +165,7 @@ pub(crate) fn rule_25(rt: &impl Print) -> io::Result<()> {
 }
 
 pub(crate) fn rule_26(rt: &impl Print) -> io::Result<()> {
-    let b = states::bytes(states::linked());
+    let b = states::bytes(&states::linked());
     at_first(rt, 26, b, 16, 96)?;
     at_first(rt, 26, b, 24, 96)?;
     at_last(rt, 26, b, 16, 1)?;
@@ -193,7 +175,7 @@ pub(crate) fn rule_26(rt: &impl Print) -> io::Result<()> {
 // Of two unsound records the lower one is the place, also where its rule is the later one; and of two rules that a record breaks the first
 // is the number.
 pub(crate) fn lowest(rt: &impl Print) -> io::Result<()> {
-    let b = states::bytes(states::linked());
+    let b = states::bytes(&states::linked());
     let b = states::set(b, 31, 31, 128);
     damaged(rt, 26, 1, b, 1, 16, 3)?;
     damaged(rt, 26, 0, b, 0, 16, 96)?;
@@ -207,11 +189,11 @@ pub(crate) fn lowest(rt: &impl Print) -> io::Result<()> {
 // Of several at fault the lowest is the detail: 0 lists the absent 2, 3 and 4; neither 1 nor 31 lists 0; topics 2 and 31 are wrong, then 0
 // too.
 pub(crate) fn lowest_detail(rt: &impl Print) -> io::Result<()> {
-    let b = states::bytes(states::linked());
+    let b = states::bytes(&states::linked());
     at_first(rt, 23, b, 12, 30)?;
     let b = states::set(b, 31, 12, 0);
     damaged(rt, 24, 0, b, 1, 12, 0)?;
-    let b = states::bytes(states::linked());
+    let b = states::bytes(&states::linked());
     let b = states::set(b, 0, 159, 0);
     at_first(rt, 25, b, 40, 2)?;
     let b = states::set(b, 0, 40, 2);

@@ -4,7 +4,7 @@ use network::Network;
 // Peers 0, 1 and 31; 0 is linked to both others.
 //   0: pubs {0}, subs {1}, pending {5}, seen {6}; 1: subs {0}, pending {0}, seen {1}; 31: pubs {31}, subs {0, 31}, pending {63}, seen {0}.
 pub(crate) fn linked() -> Network {
-    let mut n = network::blank();
+    let mut n = Network::blank();
     n.present = 0x8000_0003;
     n.pubs[0] = 1;
     n.pubs[31] = 0x8000_0000;
@@ -59,7 +59,7 @@ pub(crate) fn linked_by_hand() -> [u8; 5120] {
 
 // Peer 31 alone: pubs {31}, subs {0, 31}, pending {63}, seen {0}.
 pub(crate) fn alone() -> Network {
-    let mut n = network::blank();
+    let mut n = Network::blank();
     n.present = 0x8000_0000;
     n.pubs[31] = 0x8000_0000;
     n.subs[31] = 0x8000_0001;
@@ -68,10 +68,17 @@ pub(crate) fn alone() -> Network {
     n
 }
 
+// What stands where a case reads into: not blank, and no case reads it.
+pub(crate) fn before() -> Network {
+    let mut n = linked();
+    n.pending[31] = 2;
+    n
+}
+
 // The bytes of a sound network; 238 in every byte where it is refused.
-pub(crate) fn bytes(n: Network) -> [u8; 5120] {
+pub(crate) fn bytes(n: &Network) -> [u8; 5120] {
     let mut b = [238u8; 5120];
-    network::write(n, &mut b);
+    let _ = n.write(&mut b);
     b
 }
 

@@ -1,58 +1,45 @@
 // Writing a network: an unsound one and a wrong length are refused, and the buffer stays as it was. A network has no first four bytes, so
 // rule 20 can't be broken in it.
 use crate::{print, states};
-use network::Network;
+use network::{Network, Refused};
 use std::io;
 
 // What writing answered, and the buffer afterwards.
 #[derive(Drop)]
 struct After {
-    number: u8,
-    place: usize,
-    detail: u8,
+    answer: Result<(), Refused>,
     bytes: [u8; 5120],
 }
 
 // The network is written over a buffer of 170s.
-fn write_over(n: Network) -> After {
+fn write_over(n: &Network) -> After {
     let mut bytes = [170u8; 5120];
-    let wrote = network::write(n, &mut bytes);
-    After {
-        number: wrote.number,
-        place: wrote.place,
-        detail: wrote.detail,
-        bytes,
-    }
+    let answer = n.write(&mut bytes);
+    After { answer, bytes }
 }
 
 // A sound network is written as the bytes that document 01 gives it.
 pub(crate) fn accepted(rt: &impl Print) -> io::Result<()> {
-    let after = write_over(states::linked());
-    let bytes = after.bytes;
+    let after = write_over(&states::linked());
     print!(rt; "write, sound")?;
     print::detailed(
         rt,
-        after.number,
-        after.place,
-        after.detail,
+        after.answer,
         "as given",
-        print::same(&bytes, &states::linked_by_hand()),
+        print::same(&after.bytes, &states::linked_by_hand()),
     )
 }
 
 // An unsound network is written; the line says which rule it breaks, and at which record.
 fn refused(rt: &impl Print, rule: u64, fault: u64, n: Network) -> io::Result<()> {
-    let after = write_over(n);
-    let bytes = after.bytes;
+    let after = write_over(&n);
     print::word(rt, "write, rule ", rule)?;
     print::word(rt, " at ", fault)?;
     print::detailed(
         rt,
-        after.number,
-        after.place,
-        after.detail,
+        after.answer,
         "untouched",
-        print::same(&bytes, &[170u8; 5120]),
+        print::same(&after.bytes, &[170u8; 5120]),
     )
 }
 
@@ -60,16 +47,9 @@ fn refused(rt: &impl Print, rule: u64, fault: u64, n: Network) -> io::Result<()>
 fn length(rt: &impl Print, state: &mut [u8], before: &[u8]) -> io::Result<()> {
     let mut n = states::linked();
     n.neighbours[0] = 0;
-    let wrote = network::write(n, &mut *state);
+    let wrote = n.write(&mut *state);
     print::word(rt, "write, length ", before.len() as u64)?;
-    print::detailed(
-        rt,
-        wrote.number,
-        wrote.place,
-        wrote.detail,
-        "untouched",
-        print::same(state, before),
-    )
+    print::detailed(rt, wrote, "untouched", print::same(state, before))
 }
 
 pub(crate) fn lengths(rt: &impl Print) -> io::Result<()> {
@@ -83,7 +63,7 @@ pub(crate) fn rule_21(rt: &impl Print) -> io::Result<()> {
     let mut n = states::alone();
     n.subs[0] = 1;
     refused(rt, 21, 0, n)?;
-    let mut n = network::blank();
+    let mut n = Network::blank();
     n.known[1023] = 1;
     refused(rt, 21, 31, n)
 }

@@ -111,7 +111,7 @@ module _ (n : Network) (p : Peer) where
   pub known_tested : {subscribers : List ℕ} {r b : Bool} → subscribers ≡ subscribers_of n.subs → r ≡ all 32 (same_at n.known subscribers (neighbours_of n p) p) → r ≡ b → known_right n p ≡ b
   known_tested s e h = sym (same_is n p s) ∙ sym e ∙ h
 
--- the answer of a search, with 32 for none
-pub found_or : (o : Option ℕ) {k : ℕ} → Found 32 o k → unwrap_or o 32 ≡ k
-found_or None f = sym f
-found_or (Some q) f = f.0
+-- where a search has to find d, that is what it found
+pub found_as : (o : Option ℕ) {k d : ℕ} → Found 32 o k → k ≡ d → d < 32 → unwrap_or o 0 ≡ d
+found_as None f e b = absurd (omega arith)
+found_as (Some q) f e b = f.0 ∙ e

@@ -8,9 +8,10 @@ ghost use Rattle.network.specs.Tests.{subscribers_of};
 use crate::{Network, Peer, Refusal, Refused, rules};
 
 // The detail that goes with p's fault: the lowest peer or topic at fault for 23 to 25, 0 for the others. It is asked only once a record is
-// known to be at fault.
+// known to be at fault, so that there is one.
 fn detail(n: &Network, refusal: Refusal, p: Peer, subscribers: &[u32; 32]) -> u8
-    requires { (p.0 < 32) × (subscribers.now ≡ subscribers_of n.now.subs) }
+    requires within { (p.0 < 32) × (subscribers.now ≡ subscribers_of n.now.subs) }
+    requires there { detail_of (number_of refusal) n.now p < 32 }
     ensures { result ≡ detail_of (number_of refusal) n.now p }
 {
     let listed = n.neighbours[p.0 as usize];
@@ -18,9 +19,9 @@ fn detail(n: &Network, refusal: Refusal, p: Peer, subscribers: &[u32; 32]) -> u8
         Refusal::NeighbourAbsent => rules::near_absent(listed, n.present),
         Refusal::NotListedBack => rules::list_back(&n.neighbours, listed, p),
         Refusal::KnownWrong => rules::row_known(&n.known, subscribers, listed, p),
-        _ => Some(0),
+        _ => None,
     };
-    found.unwrap_or(32) as u8
+    found.unwrap_or(0) as u8
 }
 
 // The verdict: the lowest record that breaks a rule, the first rule that it breaks, and the detail.

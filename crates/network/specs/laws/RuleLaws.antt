@@ -1,5 +1,5 @@
 -- Each rule of a present record in observations, both ways; and the lowest peer or topic that breaks one. Assumes nothing.
-use Rattle.std.specs.Prelude.{◌≡◌, Bool, true, false, ◌&&◌, ◌||◌, ℕ, ◌≤◌, ◌<◌}
+use Rattle.std.specs.Prelude.{◌≡◌, refl, Bool, true, false, cond, eqb, ◌&&◌, ◌||◌, ℕ, ◌≤◌, ◌<◌}
 use Rattle.std.proofs.Common.{sym, ◌∙◌, ⊎_elim, arith}
 use Rattle.std.proofs.Math.Path.{ap}
 use Rattle.std.proofs.Math.Bool.{not}
@@ -21,7 +21,7 @@ use Rattle.network.specs.declared.Message.{Message}
 use Rattle.network.specs.declared.Network.{Network}
 use Rattle.network.specs.Network.{peer, topic, message, neighbours_of, pending_of, seen_of, known_of, present, subscribed, linked, pending, saw, knows, Shaped}
 use Rattle.network.specs.laws.SoundLaws.{linked_other}
-use Rattle.network.specs.Rules.{own_right, near_right, back_right, known_at, known_right, apart_right, lowest_wrong}
+use Rattle.network.specs.Rules.{own_right, near_at, near_right, back_at, back_right, known_at, known_right, apart_right, need, absent_fault, present_fault, fault_of, lowest_wrong, detail_of}
 
 -- ---- the lowest of 32 that breaks a rule
 
@@ -43,6 +43,26 @@ wrong_below right j l = not_no _ (lowest_of_least 32 (λ (i : ℕ). not (right i
 pub wrong_is : (right : ℕ → Bool) (i : ℕ) → i < 32 → right i ≡ false → ((j : ℕ) → j < i → right j ≡ true) → i ≡ lowest_wrong right
 unfolding lowest_wrong
 wrong_is right i l h below = sym (lowest_of_is 32 (λ (j : ℕ). not (right j)) i l (ap not h) λ j c. ap not (below j c))
+
+-- "23 to 25 also give the lowest peer or topic at fault": of a record at fault there is one
+need_why : (P : ℕ → Type 0) (a : Bool) (k rest : ℕ) → (a ≡ false → P k) → P rest → P (need a k rest)
+unfolding need
+need_why P true k rest h r = r
+need_why P false k rest h r = h refl
+
+pub detail_lt : (h : ℕ) (n : Network) (p : Peer) → detail_of (fault_of h n p) n p < 32
+unfolding fault_of absent_fault present_fault near_right back_right known_right detail_of
+detail_lt h n p = need_why P _ 20 _ (λ _. omega arith) (go (eqb h 0))
+  where
+    P : ℕ → Type 0
+    P k = detail_of k n p < 32
+
+    go : (x : Bool) → P (cond x (absent_fault n p) (present_fault n p))
+    go true = need_why P _ 21 0 (λ _. omega arith) (omega arith)
+    go false =
+        need_why P _ 22 _ (λ _. omega arith)
+        (need_why P _ 23 _ (wrong_some (near_at n p))
+        (need_why P _ 24 _ (wrong_some (back_at n p)) (need_why P _ 25 _ (wrong_some (known_at n p)) (need_why P _ 26 0 (λ _. omega arith) (omega arith)))))
 
 -- ---- "p isn't its own neighbour"
 

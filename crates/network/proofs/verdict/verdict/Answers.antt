@@ -3,8 +3,12 @@ use borrow.Author.Rules.{rules}
 use mathlib.Core.Path.{refl}
 use native.Mathlib.Omega.{arith}
 use Rattle.network.specs.laws.Faults.{verdict_none, clean_more, verdict_one}
+use Rattle.network.specs.laws.RuleLaws.{detail_lt}
 use Rattle.network.specs.laws.Refusal.{refusal_not_0}
 use Rattle.network.proofs.verdict.verdict.Goals as goal
+
+pub detail-requires-clause-there : goal.detail-requires-clause-there
+detail-requires-clause-there c = rw c.in-Err.ensures (detail_lt _ _ _)
 
 pub returns-in-Err : goal.returns-in-Err
 returns-in-Err c =

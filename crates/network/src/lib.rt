@@ -94,6 +94,7 @@ impl From<Result<(), Refused>> for Checked {
 
 impl Network {
     // The blank network: nobody is present.
+    #[tactic(auto, unfolding(crate::specs::State::blank_net))]
     pub fn blank() -> Network
         ensures { result ≡ blank_net }
     {
@@ -189,6 +190,7 @@ impl Network {
 
 impl Table {
     // The table of zeros.
+    #[tactic(auto, unfolding(crate::specs::Rows::blank_table))]
     pub fn blank() -> Table
         ensures { result ≡ blank_table }
     {

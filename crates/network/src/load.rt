@@ -8,6 +8,7 @@ use endian::Little;
 use crate::Peer;
 
 // Word j of each record.
+#[tactic(auto, using(lists::specs::laws::Tab::filled_more, crate::specs::laws::Layout::filled_end), unfolding(crate::specs::State::word))]
 pub(crate) fn words(state: &[u8; 5120], j: usize) -> [u32; 32]
     requires { j < 40 }
     ensures { result ≡ tab 32 (λ (p : ℕ). word_in state.now p j) }
@@ -19,6 +20,7 @@ pub(crate) fn words(state: &[u8; 5120], j: usize) -> [u32; 32]
     r
 }
 
+#[tactic(auto, using(crate::specs::laws::Layout::filled_end))]
 // The 8-byte number at words j and j + 1 of each record.
 pub(crate) fn longs(state: &[u8; 5120], j: usize) -> [u64; 32]
     requires { j < 39 }

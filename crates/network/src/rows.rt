@@ -19,6 +19,7 @@ pub(crate) fn words(table: &[u8; 256]) -> [u32; 64]
     x
 }
 
+#[tactic(auto, unfolding(crate::specs::RowWords::word_right))]
 // A row with this number has a topic, an origin and two zero bytes.
 fn right(w: u32) -> bool
     ensures { result ≡ word_right w }

@@ -1,14 +1,18 @@
 -- Laws of specs/Layout.antt. Assumes nothing.
-use Rattle.std.specs.Prelude.{◌≡◌, List, ℕ, ◌+◌, ◌*◌, ◌/◌, ◌%◌, ◌<◌, get_or, set}
+use Rattle.std.specs.Prelude.{◌≡◌, List, ℕ, ◌+◌, ◌*◌, ◌/◌, ◌%◌, ◌≤◌, ◌<◌, get_or, set}
 use Rattle.std.proofs.Common.{ap, subst, ◌∙◌, arith}
 use Rattle.lists.specs.Tab.{tab, Filled}
-use Rattle.lists.specs.laws.Tab.{get_or_tab, filled_more}
+use Rattle.lists.specs.laws.Tab.{is_tab, get_or_tab, filled_more}
 use Rattle.network.specs.State.{word_in, known_in}
 use Rattle.network.specs.Layout.{RowStored}
 
 -- the front of an array, counted otherwise
 pub filled_to : {n : ℕ} {f : ℕ → ℕ} {k : ℕ} {l : List ℕ} (j : ℕ) → Filled n f k l → k ≡ j → Filled n f j l
 filled_to {n} {f} {k} {l} j h e = subst (λ (i : ℕ). Filled n f i l) e h
+
+-- once a loop that fills from the front has passed the end, all of it is there
+pub filled_end : {n : ℕ} {f : ℕ → ℕ} {k : ℕ} {l : List ℕ} → Filled n f k l → n ≤ k → l ≡ tab n f
+filled_end {n} {f} {k} {l} h b = is_tab n f l h.long λ i c. h.front i (omega arith)
 
 -- topic t of peer p
 pub known_spot : (b : List ℕ) (p t : ℕ) → t < 32 → word_in b p (8 + t) ≡ known_in b (32 * p + t)

@@ -10,5 +10,3 @@ pub loop-p-preserved : goal.loop-p-preserved
 unfolding long
 loop-p-preserved c = filled_more _ c.loop-p.invariant (search rules) c.read.ensures
 
-pub returns : goal.returns
-returns c = filled_all (filled_to _ c.loop-p.invariant (omega arith))

@@ -145,6 +145,7 @@ impl Network {
     }
 
     // Writes the network's bytes.
+    #[tactic(auto, using(lists::specs::laws::Tab::filled_none, crate::specs::laws::Storing::filled_record, crate::specs::laws::Layout::filled_end), unfolding(crate::specs::State::bytes_of))]
     pub fn save(&self, state: &mut [u8])
         requires { length state.old ≡ 5120 }
         ensures { state.new ≡ bytes_of self.now }
@@ -158,6 +159,7 @@ impl Network {
 
     // Writes pending and seen of every record into a state; its other bytes stay. Over the bytes of a network these are the bytes of that
     // network with these words (`put_messages_lem`, specs/laws/Messages.antt).
+    #[tactic(auto, using(crate::specs::laws::Messages::length_put_messages, crate::specs::laws::Messages::put_messages_more), unfolding(crate::specs::Storing::put_messages))]
     pub fn save_messages(&self, state: &mut [u8])
         requires { length state.old ≡ 5120 }
         ensures { state.new ≡ put_messages 32 state.old self.now.pending self.now.seen }

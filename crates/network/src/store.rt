@@ -30,6 +30,7 @@ pub(crate) fn heads(present: u32) -> [u32; 32]
 }
 
 // The words of record p up to its known subscribers.
+#[tactic(auto, unfolding(crate::specs::Storing::put_head))]
 pub(crate) fn words(state: &mut [u8], n: &Network, p: Peer)
     requires { (length state.old ≡ 5120) × (p.0 < 32) }
     ensures { state.new ≡ put_head state.old p.0 (head_of n.now p) (pubs_of n.now p) (subs_of n.now p) (neighbours_of n.now p) (pending_of n.now p) (seen_of n.now p) }
@@ -45,6 +46,7 @@ pub(crate) fn words(state: &mut [u8], n: &Network, p: Peer)
 }
 
 // The known subscribers of p.
+#[tactic(auto, using(lists::specs::laws::Tab::filled_more, crate::specs::laws::Layout::filled_end))]
 pub(crate) fn row_of(known: &[u32; 1024], p: Peer) -> [u32; 32]
     requires { p.0 < 32 }
     ensures { result ≡ tab 32 (λ (t : ℕ). get_or known.now (spot p (topic t)) 0) }
@@ -58,6 +60,7 @@ pub(crate) fn row_of(known: &[u32; 1024], p: Peer) -> [u32; 32]
 }
 
 // The known subscribers of record p, passed by value.
+#[tactic(auto, using(endian::specs::laws::Le::length_put_le, crate::specs::laws::Storing::put_row_more), unfolding(crate::specs::Storing::put_row))]
 pub(crate) fn row(state: &mut [u8], row: [u32; 32], p: Peer)
     requires { (length state.old ≡ 5120) × (p.0 < 32) }
     ensures { state.new ≡ put_row 32 state.old row p.0 }

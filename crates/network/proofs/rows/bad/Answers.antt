@@ -11,16 +11,6 @@ pub returns-then-all_right : goal.returns-then-all_right
 unfolding bad_word
 returns-then-all_right c = lowest_of_all 64 _ (sym c.all_right.ensures ∙ c.if-all_right.true)
 
-pub loop-r-init : goal.loop-r-init
-loop-r-init c = lowest_of_start _
-
 pub returns-then-not-right : goal.returns-then-not-right
 unfolding bad_word
 returns-then-not-right c = (lowest_of_found 64 _ _ c.loop-r.invariant (search rules) (ap not (sym c.right.ensures ∙ c.if-not-right.true)), search rules)
-
-pub loop-r-preserved : goal.loop-r-preserved
-loop-r-preserved c = lowest_of_on _ _ c.loop-r.invariant (ap not (sym c.right.ensures ∙ c.if-not-right.false))
-
-pub returns : goal.returns
-unfolding bad_word
-returns c = let e : c.loop-r.r ≡ 64 = omega arith in sym (rw e at c.loop-r.invariant)

@@ -13,22 +13,9 @@ pub returns-then-row_same : goal.returns-then-row_same
 unfolding row_known
 returns-then-row_same c = lowest_of_all 32 _ (sym c.row_same.ensures ∙ c.if-row_same.true)
 
-pub loop-t-init : goal.loop-t-init
-loop-t-init c = lowest_of_start _
-
 pub returns-then-known-spot : goal.returns-then-known-spot
 unfolding row_known
 returns-then-known-spot c =
     let a = c.args in
     let l = c.loop-t in
     (lowest_of_found 32 l.t _ l.invariant (search rules) (ap not (sym (known_at_lem a.known.now a.subscribers.now a.listed a.p l.t c.spot.ensures c.meet.ensures) ∙ ne_eqb _ _ c.if-known-spot.true)), search rules)
-
-pub loop-t-preserved : goal.loop-t-preserved
-loop-t-preserved c =
-    let a = c.args in
-    let l = c.loop-t in
-    lowest_of_on l.t _ l.invariant (ap not (sym (known_at_lem a.known.now a.subscribers.now a.listed a.p l.t c.spot.ensures c.meet.ensures) ∙ eq-eqb _ _ c.if-known-spot.false))
-
-pub returns : goal.returns
-unfolding row_known
-returns c = let e : c.loop-t.t ≡ 32 = omega arith in sym (rw e at c.loop-t.invariant)

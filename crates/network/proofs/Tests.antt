@@ -1,13 +1,13 @@
 -- Laws of specs/Tests.antt. Assumes nothing.
 use mathlib.Core.Path.{◌≡◌, sym, ap, ◌∙◌}
-use mathlib.Core.Bool.{Bool, true, false, not, ◌&&◌, and_comm, and-true, and-false}
+use mathlib.Core.Bool.{Bool, true, false, not, ◌&&◌, and_comm}
 use mathlib.Core.List.{List}
 use Rattle.std.specs.Prelude.{Option, None, Some, is_some, unwrap_or}
-use Prim.Native.Nat.{ℕ, ◌+◌, ◌^◌, ◌≤◌, ◌<◌}
+use Prim.Native.Nat.{ℕ, ◌^◌, ◌<◌}
 use native.Mathlib.Omega.{arith}
 use lib.Dec.{eqb}
 use lib.ListN.{get_or}
-use borrow.Author.Tests.{eq-eqb, eqb-true}
+use borrow.Author.Tests.{eq-eqb}
 use Rattle.sets.proofs.laws.Members.{has_meet, has_minus}
 use Rattle.sets.proofs.laws.Bounds.{meet_lt, minus_lt}
 use Rattle.sets.proofs.laws.Build.{set_of_lt, has_set_of, is_set_of}
@@ -17,21 +17,13 @@ use Rattle.sets.proofs.laws.Bools.{clash, and_or_not, ne_eqb}
 use Rattle.sets.proofs.laws.Least.{lowest_of_le, lowest_of_same, lowest_of_is_all}
 use Rattle.sets.proofs.laws.Lowest.{lowest_none, lowest_lowest_of}
 use Rattle.sets.specs.Any.{all}
-use Rattle.sets.proofs.laws.Any.{all_yes, all_why, all_more, all_same}
+use Rattle.sets.proofs.laws.Any.{all_same}
 use Rattle.lists.specs.laws.Tab.{get_or_tab}
 use Rattle.network.specs.declared.Peer.{Peer}
-use Rattle.network.specs.declared.Topic.{Topic}
 use Rattle.network.specs.declared.Network.{Network}
 use Rattle.network.specs.Network.{peer, topic, spot, neighbours_of, known_of, present, linked, subscribed}
 use Rattle.network.specs.Rules.{own_right, near_at, near_right, back_at, back_right, known_at, known_right, lowest_wrong}
-use Rattle.network.specs.Tests.{Found, subscribers_of, row_empty, near_absent, list_back, same_at, row_known}
-
--- a loop that asks all of them: r says whether all so far passed
-pub all_keep : (n : ℕ) (f : ℕ → Bool) {r : Bool} → r ≡ all n f → f n ≡ true → r ≡ all (n + 1) f
-all_keep n f e h = e ∙ sym (all_more n f ∙ ap (λ (b : Bool). all n f && b) h ∙ and-true (all n f))
-
-pub all_lost : (n : ℕ) (f : ℕ → Bool) → f n ≡ false → false ≡ all (n + 1) f
-all_lost n f h = sym (all_more n f ∙ ap (λ (b : Bool). all n f && b) h ∙ and-false (all n f))
+use Rattle.network.specs.Tests.{Found, subscribers_of, near_absent, list_back, same_at, row_known}
 
 -- what is compared for topic t
 pub known_at_lem : (known subscribers : List ℕ) (listed : ℕ) (p : Peer) (t : ℕ) {i w : ℕ} → i ≡ spot p (topic t) → w ≡ meet (get_or subscribers t 0) listed → eqb (get_or known i 0) w ≡ same_at known subscribers listed p t

@@ -203,6 +203,7 @@ impl Table {
     }
 
     // Reads the table that the rows say. Refused by 2, then by 4 with the lowest bad row; a refused read leaves a table of zeros.
+    #[tactic(auto, using(crate::specs::laws::Listing::list_2, crate::specs::laws::Listing::list_4, crate::specs::laws::Listing::list_0, crate::proofs::RowWords::bad_is, crate::proofs::RowWords::table_is))]
     pub fn read(&mut self, rows: &[u8]) -> Result<(), Refused>
         ensures { listed_as result self.new ≡ list_of rows.now }
     {

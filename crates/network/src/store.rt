@@ -19,6 +19,7 @@ fn head(n: &Network, p: Peer) -> u32
 }
 
 // The first words of all records: 1 at each member of `present`, 0 elsewhere.
+#[tactic(auto, using(lists::specs::laws::Visit::visiting_none, sets::proofs::laws::Sizes::size_less))]
 pub(crate) fn heads(present: u32) -> [u32; 32]
     ensures { result ≡ tab 32 (λ (p : ℕ). digit (has present p)) }
 {

@@ -65,7 +65,7 @@ pub opens_same : {A : Type 0} {a b : List ℕ} {old n : Network} {r : Result A R
 opens_same e o = rw e at o
 
 -- any two outcomes that satisfy the promise are equal
-pub settled_opens : {A : Type 0} {b : List ℕ} {old n m : Network} {r q : Result A Refused} → Opens b old r n → Opens b old q m 
+pub settled_opens : {A : Type 0} {b : List ℕ} {old n m : Network} {r q : Result A Refused} → Opens b old r n → Opens b old q m
     → ((checked_as r).number ≡ (checked_as q).number) × ((checked_as r).place ≡ (checked_as q).place) × ((checked_as r).detail ≡ (checked_as q).detail) × (n ≡ m)
 unfolding opened_by
 settled_opens x y =

@@ -1,9 +1,8 @@
 -- `network::rows::bad` meets its contract. Assumes nothing.
 use borrow.Author.Rules.{rules}
-use mathlib.Core.Path.{◌≡◌, sym, ap, ◌∙◌}
+use mathlib.Core.Path.{sym, ap, ◌∙◌}
 use mathlib.Core.Bool.{not}
-use native.Mathlib.Omega.{arith}
-use Rattle.sets.proofs.laws.Least.{lowest_of_all, lowest_of_start, lowest_of_on, lowest_of_found}
+use Rattle.sets.proofs.laws.Least.{lowest_of_all, lowest_of_found}
 use Rattle.network.specs.RowWords.{bad_word}
 use Rattle.network.proofs.rows.bad.Goals as goal
 

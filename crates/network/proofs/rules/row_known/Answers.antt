@@ -1,10 +1,9 @@
 -- `network::rules::row_known` meets its contract. Assumes nothing.
 use borrow.Author.Rules.{rules}
-use mathlib.Core.Path.{◌≡◌, sym, ap, ◌∙◌}
+use mathlib.Core.Path.{sym, ap, ◌∙◌}
 use mathlib.Core.Bool.{not}
-use native.Mathlib.Omega.{arith}
-use borrow.Author.Tests.{eq-eqb, ne_eqb}
-use Rattle.sets.proofs.laws.Least.{lowest_of_all, lowest_of_start, lowest_of_on, lowest_of_found}
+use borrow.Author.Tests.{ne_eqb}
+use Rattle.sets.proofs.laws.Least.{lowest_of_all, lowest_of_found}
 use Rattle.network.specs.Tests.{row_known}
 use Rattle.network.proofs.Tests.{known_at_lem}
 use Rattle.network.proofs.rules.row_known.Goals as goal

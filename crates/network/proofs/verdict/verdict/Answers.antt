@@ -1,9 +1,6 @@
 -- `network::verdict::verdict` meets its contract. Assumes nothing.
 use borrow.Author.Rules.{rules}
-use mathlib.Core.Path.{refl}
-use native.Mathlib.Omega.{arith}
-use Rattle.network.specs.laws.Faults.{verdict_none, clean_more, verdict_one}
-use Rattle.network.specs.laws.RuleLaws.{detail_lt}
+use Rattle.network.specs.laws.Faults.{verdict_one}
 use Rattle.network.specs.laws.Refusal.{refusal_not_0}
 use Rattle.network.proofs.verdict.verdict.Goals as goal
 

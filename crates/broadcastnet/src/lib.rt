@@ -15,7 +15,8 @@ ghost use Rattle.broadcastnet.specs.Commit.{together, without, image_net};
 
 use network::Network;
 
-// The messages that are pending at any peer.
+// The messages that are pending at any peer. (The drain has the same walk, over the words of its own specs/AtOnce.antt. To share it would take a
+// public function there, a law that the two definitions are one, and the crate drain below this one: more than the four lines.)
 #[tactic(auto, unfolding(crate::specs::Commit::together))]
 pub fn underway(pending: &[u64; 32]) -> u64
     ensures { result ≡ together 32 pending.now }

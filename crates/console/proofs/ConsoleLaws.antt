@@ -13,11 +13,9 @@ use Rattle.sets.proofs.laws.Bools.{ne_eqb}
 use Rattle.network.specs.declared.Network.{Network}
 use Rattle.network.specs.State.{blank_net}
 use Rattle.engine.specs.declared.Tally.{Tally}
-use Rattle.engine.specs.declared.Begun.{Begun}
-use Rattle.engine.specs.declared.Ran.{Ran}
-use Rattle.engine.specs.Start.{begin_of}
+use Rattle.engine.specs.Start.{Beginning, begin_of}
 use Rattle.engine.specs.laws.StartLaws.{begin_1, begin_2}
-use Rattle.engine.specs.Run.{Final, run_all, RunsTo, run_of, written, untouched}
+use Rattle.engine.specs.Run.{Ran, Final, run_all, RunsTo, run_of, written, untouched}
 use Rattle.report.specs.Report.{first_line, peer_lines, shown_for, report_of, put_in, count_in, Reported}
 use Rattle.console.specs.Console.{state_in, table_in, events_in, refused_text, final_text, text_of, flood_of, Printed}
 
@@ -52,12 +50,12 @@ refused_text_lem number place e = ap (λ (x : Network). report_of number place 0
 -- ---- a run
 
 -- refused before any event
-pub text_refused : (s t ev : List ℕ) {g : Begun} → g ≡ begin_of s t (length ev) → (g.number ≡ 0 → ⊥) → refused_text g.number g.place ≡ text_of s t ev
+pub text_refused : (s t ev : List ℕ) {g : Beginning} → g ≡ begin_of s t (length ev) → (g.number ≡ 0 → ⊥) → refused_text g.number g.place ≡ text_of s t ev
 unfolding text_of
 text_refused s t ev e h = rw (← e, ne_eqb h)
 
 -- the events were run
-pub text_run : (s t ev : List ℕ) {g : Begun} → g ≡ begin_of s t (length ev) → g.number ≡ 0 → (r : Ran) {y : Tally} → RunsTo r y (run_all ev g.table g.network)
+pub text_run : (s t ev : List ℕ) {g : Beginning} → g ≡ begin_of s t (length ev) → g.number ≡ 0 → (r : Ran) {y : Tally} → RunsTo r y (run_all ev g.table g.network)
     → {show : Bool} → show ≡ shown_for r.answer.number
     → report_of r.answer.number r.answer.place r.answer.accepted r.network show ≡ text_of s t ev
 unfolding text_of final_text
@@ -137,7 +135,7 @@ pub text_answer : (s t ev : List ℕ) (old : Tally)
 unfolding text_of run_of peers_after final_text refused_text report_of
 text_answer s t ev old = either (eqb g.number 0)
   where
-    g : Begun
+    g : Beginning
     g = begin_of s t (length ev)
 
     f : Final

@@ -9,21 +9,21 @@ use native.Mathlib.Omega.{arith}
 use native.Mathlib.Decide.{dec_lt, ℕ_discrete}
 use lib.Dec.{eqb}
 use lib.Pow.{pow_mono}
-use lib.ListN.{length, get_or, set, take, length-set}
-use lib.Seq.{get_or-set_same, get_or-set_other, set_out, set-set, set-get_or, ext_get_or, take_all}
-use Rattle.sets.specs.Set.{has, union, minus, only, with_if, set_of, count, when, puts}
+use lib.ListN.{length, get_or, set, length-set}
+use lib.Seq.{get_or-set_same, get_or-set_other, set_out, set-set, set-get_or, ext_get_or}
+use Rattle.sets.specs.Set.{has, union, minus, only, with_if, set_of, when, puts}
 use Rattle.sets.specs.Rising.{rising}
 use Rattle.sets.proofs.laws.Bools.{bool2, eqb_same, ne_eqb}
 use Rattle.sets.proofs.laws.Members.{membership, has_minus, has_only, has_with, has_with_other, ext}
 use Rattle.sets.proofs.laws.Bounds.{union_lt, only_lt}
 use Rattle.sets.proofs.laws.Algebra.{union_empty, union_assoc}
 use Rattle.sets.proofs.laws.Build.{has_with_if, set_of_lt, has_set_of_out, set_of_has}
-use Rattle.sets.proofs.laws.Rising.{length_rising}
 use Rattle.lists.specs.Edit.{edit}
 use Rattle.lists.specs.laws.Edit.{length_edit}
 use Rattle.flooding.specs.Machine.{Pair, pair, run}
 use Rattle.flooding.proofs.laws.Loop.{run_snoc}
 use Rattle.network.specs.declared.Network.{Network}
+use Rattle.network.specs.declared.Table.{Table}
 use Rattle.network.specs.Network.{peer, message, table}
 use Rattle.floodnet.specs.Forward.{moved, receivers, given, forwarded}
 use Rattle.floodnet.specs.Produce.{holders}
@@ -31,7 +31,6 @@ use Rattle.floodnet.specs.laws.Places.{has_set, has_edit}
 use Rattle.floodnet.specs.View.{fwd}
 use Rattle.floodnet.specs.Lent.{with_messages}
 use Rattle.drain.specs.Pairs.{pairs_of}
-use Rattle.drain.specs.Lent.{Leads}
 use Rattle.drain.specs.AtOnce.{reach, spread, AtOnce}
 use Rattle.drain.proofs.AtOnce.{has_left, has_reach}
 
@@ -202,10 +201,7 @@ module _ (n : Network) (os e f g ts : List ℕ) (p : ℕ) where
       ap₂ (λ (x y : List ℕ). with_messages n x y g) (a.pending ∙ ap (λ (x : List ℕ). spread g ts x p w (set e p (minus (get_or e p 0) w))) a.seen) a.seen
       ∙ sym (run_pairs w a.fit 64 (omega arith) ∙ ap (λ (x : ℕ). with_messages n (wait x) (had x) g) (set_of_has 64 w b))
 
--- Where the budget has them all, this is what the forwards of the peer answer and lead to.
-pub all_at_once : {e f g ts e' f' : List ℕ} {p w k left : ℕ} → w < 2 ^ 64 → k ≡ count 64 (has w) → k ≤ left → AtOnce g ts e f p w e' f'
-    → (k ≡ length (take left (pairs_of p w 64))) × Leads g ts e f (take left (pairs_of p w 64)) e' f'
-all_at_once {e} {f} {g} {ts} {e'} {f'} {p} {w} {k} {left} b h l a =
-    let many : length (pairs_of p w 64) ≡ count 64 (has w) = length_rising (λ m. pair p m ∷ []) (λ m. refl) 64 w in
-    let whole : take left (pairs_of p w 64) ≡ pairs_of p w 64 = take_all left (pairs_of p w 64) (omega (arith, many)) in
-    rw whole (h ∙ sym many, λ n os. leads_at_once n os e f g ts p w b a)
+-- What the code makes of n so is what the forwards lead to.
+pub forwards_at_once : (b : Table) (n : Network) (p : ℕ) {w : ℕ} {n' : Network} → w < 2 ^ 64 → AtOnce n.known b.topics n.pending n.seen p w n'.pending n'.seen
+    → n' ≡ with_messages n n'.pending n'.seen n.known → n' ≡ run (fwd b) n (pairs_of p w 64)
+forwards_at_once b n p {w} l a e = e ∙ leads_at_once n b.origins n.pending n.seen n.known b.topics p w l a

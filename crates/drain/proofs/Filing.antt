@@ -21,7 +21,7 @@ use Rattle.sets.proofs.laws.Bounds.{has_in, union_lt, minus_lt, only_lt}
 use Rattle.sets.proofs.laws.Build.{has_set_of, is_set_of, set_of_lt, has_sifted}
 use Rattle.sets.proofs.laws.Lowest.{lowest_has, lowest_lt}
 use Rattle.sets.proofs.laws.Visits.{minus_self, minus_none, subset_self, subset_step, visit_step, set_of_none, Visit, visit_none, visit_yes, visit_no, visit_done}
-use Rattle.drain.specs.AtOnce.{anywhere_of, topics_of, ByTopic, OwnTopics, EachFiled}
+use Rattle.drain.specs.AtOnce.{TopicsFit, anywhere_of, topics_of, ByTopic, OwnTopics, AllFiled, EachFiled}
 
 -- ---- `anywhere`
 
@@ -158,12 +158,13 @@ pub own_topics : (ts words : List ℕ) {s : ℕ} → s < 2 ^ 64 → ByTopic ts s
 own_topics ts words {s} b h t m l e =
     eqb-true (get_or ts m 0) t (and_yes (has s m) _ (sym (has_sifted 64 s (λ (i : ℕ). eqb (get_or ts i 0) t) b m) ∙ ap (λ (w : ℕ). has w m) (sym (h t l)) ∙ e)).1
 
--- Every message of the words of l is in the word of its topic, and its topic is used.
-pub each_filed : (ts words l : List ℕ) {s used : ℕ} → s < 2 ^ 64 → ((i : ℕ) → get_or ts i 0 < 32) → s ≡ anywhere_of l 32 → ByTopic ts s words → used ≡ topics_of ts s
-    → EachFiled ts words used l
-each_filed ts words l {s} {used} b fit es h eu p c m e =
-    let x : has s m ≡ true = ap (λ (w : ℕ). has w m) es ∙ has_anywhere l 32 p m c e in
-    record {
-      topic = ap (λ (w : ℕ). has w (get_or ts m 0)) eu ∙ has_topics ts s m (has_in 64 s m b x) (fit m) x;
-      word = ap (λ (w : ℕ). has w m) (h (get_or ts m 0) (fit m)) ∙ has_sifted 64 s (λ (i : ℕ). eqb (get_or ts i 0) (get_or ts m 0)) b m ∙ and_both x (eqb_same (get_or ts m 0));
-    }
+-- Every message of s is in the word of its topic, and its topic is used.
+pub all_filed : (ts words : List ℕ) {s used : ℕ} → s < 2 ^ 64 → TopicsFit ts → ByTopic ts s words → used ≡ topics_of ts s → AllFiled ts words used s
+all_filed ts words {s} {used} b fit h eu m x = record {
+  topic = ap (λ (w : ℕ). has w (get_or ts m 0)) eu ∙ has_topics ts s m (has_in 64 s m b x) (fit m) x;
+  word = ap (λ (w : ℕ). has w m) (h (get_or ts m 0) (fit m)) ∙ has_sifted 64 s (λ (i : ℕ). eqb (get_or ts i 0) (get_or ts m 0)) b m ∙ and_both x (eqb_same (get_or ts m 0));
+}
+
+-- So is every message of the words of l, where s has what is pending anywhere.
+pub each_filed : (ts words l : List ℕ) {s used : ℕ} → s ≡ anywhere_of l 32 → AllFiled ts words used s → EachFiled ts words used l
+each_filed ts words l es h p c m e = h m (ap (λ (w : ℕ). has w m) es ∙ has_anywhere l 32 p m c e)

@@ -18,6 +18,10 @@ unfoldable pub anywhere_of : List ℕ → ℕ → ℕ
 anywhere_of l zero = 0
 anywhere_of l (suc k) = union (anywhere_of l k) (get_or l k 0)
 
+-- every topic of a table's column is one of the 32
+abbrev pub TopicsFit : List ℕ → Type 0
+TopicsFit ts = (i : ℕ) → get_or ts i 0 < 32
+
 -- the topics of the messages of s
 unfoldable pub topics_of : List ℕ → ℕ → ℕ
 topics_of ts s = set_of 32 (λ (t : ℕ). any 64 (λ (m : ℕ). has s m && eqb (get_or ts m 0) t))

@@ -1,5 +1,5 @@
--- The words of the contracts on lent arrays: the pending and seen messages of a network, lent to be changed, beside its known subscribers and
--- the table's topics. What is not lent stays as it was. Assumes nothing.
+-- The words of `drain_all`'s contract: from the pending and seen messages of a network to those at a drain's end, by its known subscribers and
+-- the table's topics, whatever else a network and a table have. Assumes nothing.
 use Rattle.std.specs.Prelude.{◌≡◌, List, ℕ}
 use Rattle.flooding.specs.Machine.{Pair, Drained, run}
 use Rattle.network.specs.declared.Network.{Network}
@@ -21,7 +21,7 @@ pub record Answers (d : Drained Network) (last : Network) (r : Drains) : Type 0 
   pub rounds : r.rounds ≡ d.rounds
   pub quiet : r.quiet ≡ quiet_of d.end
 
--- so it is of the drain of every network that has the lent arrays, sound or not, with every table that has the topics; of a sound one it is
+-- so it is of the drain of every network that has these arrays, sound or not, with every table that has the topics; of a sound one it is
 -- `drain_of` (`drains_sound`, specs/laws/LentLaws.antt), and no other answer and arrays will do (`drains_settle`, there)
 abbrev pub DrainsTo : (g ts e f : List ℕ) → ℕ → (e' f' : List ℕ) → Drains → Type 0
 DrainsTo g ts e f budget e' f' r =

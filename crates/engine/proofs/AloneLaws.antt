@@ -1,5 +1,5 @@
 -- Laws of reading and writing as entry points: each way that they end. Assumes nothing.
-use mathlib.Core.Path.{◌≡◌, ap, ◌∙◌}
+use mathlib.Core.Path.{◌≡◌, ap}
 use mathlib.Core.List.{List}
 use Prim.Native.Nat.{ℕ}
 use lib.ListN.{length}
@@ -12,10 +12,6 @@ use Rattle.engine.specs.Alone.{check_of, copy_of, copied_of}
 pub check_is : {o : Opened} (s : List ℕ) → o ≡ open_of s → checked o.number o.place o.detail ≡ check_of s
 unfolding check_of
 check_is s e = ap (λ (x : Opened). checked x.number x.place x.detail) e
-
--- the answer, made by a function of its own
-pub answered_as : {A B : Type 0} {a a' x : A} {y z : B} → a ≡ a' → (a' ≡ x) × (y ≡ z) → (a ≡ x) × (y ≡ z)
-answered_as e h = (e ∙ h.0, h.1)
 
 -- the read is refused
 pub copy_refused : {o : Opened} (s to : List ℕ) → o ≡ open_of s → (o.number ≡ 0 → ⊥) → (checked o.number o.place o.detail ≡ copy_of s to) × (to ≡ copied_of s to)

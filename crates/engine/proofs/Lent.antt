@@ -1,88 +1,58 @@
--- Laws of the start where the network is read into lent arrays. Assumes nothing.
-use mathlib.Core.Path.{◌≡◌, refl, sym, ap, subst, ◌∙◌}
-use mathlib.Core.Bool.{false, cond}
+-- Laws of the start, where the network and the table are lent. Assumes nothing.
+use mathlib.Core.Path.{◌≡◌, refl, sym, ap, ◌∙◌}
+use mathlib.Core.Bool.{cond}
 use mathlib.Core.List.{List}
-use Prim.Native.Nat.{ℕ, ◌%◌}
+use Prim.Native.Nat.{ℕ, zero, suc, ◌%◌}
 use lib.Dec.{eqb}
 use lib.ListN.{length}
+use Rattle.std.specs.Prelude.{Result, Ok, Err}
 use Rattle.network.specs.declared.Network.{Network}
-use Rattle.network.specs.declared.Listed.{Listed}
-use Rattle.network.specs.declared.Looked.{Looked}
-use Rattle.endian.specs.laws.Le.{Bytes}
-use Rattle.network.specs.Network.{with_pending, with_seen, Rows}
-use Rattle.network.specs.State.{blank_net, opened, opened_by, open_of, Opens, bytes_of}
+use Rattle.network.specs.declared.Table.{Table}
+use Rattle.network.specs.declared.Refused.{Refused}
+use Rattle.network.specs.Refusal.{number_of}
+use Rattle.network.specs.Refused.{checked_as}
+use Rattle.network.specs.Network.{with_pending, with_seen}
+use Rattle.network.specs.State.{blank_net, opened, opened_by, open_of, bytes_of}
 use Rattle.network.specs.Storing.{put_messages}
+use Rattle.network.specs.Rows.{listed, list_of}
 use Rattle.network.specs.laws.Messages.{put_messages_lem}
-use Rattle.network.specs.Rows.{list_of}
-use Rattle.engine.specs.declared.Begun.{Begun}
-use Rattle.engine.specs.declared.Started.{Started}
-use Rattle.engine.specs.Start.{refused_at, unstarted_at, begun_as, begin_of}
-use Rattle.engine.specs.laws.StartLaws.{begin_unsound, begin_0}
-use Rattle.engine.specs.laws.StartFacts.{begin_by, begin_rows, begin_long, begin_bytes}
+use Rattle.floodnet.specs.Step.{refusal, effect, if_accepted, after}
+use Rattle.floodnet.specs.Forward.{moved, given, forwarded}
+use Rattle.engine.specs.Standin.{Opens}
+use Rattle.engine.specs.laws.Standin.{refusal_not_0}
+use Rattle.engine.specs.Start.{refused_at, begun_as, begin_of}
+use Rattle.engine.specs.laws.StartLaws.{begin_4, begin_unsound, begin_0}
+use Rattle.engine.specs.laws.ForwardAlone.{forward_event}
 
--- what was read, by its parts
-abbrev pub begun_by : Started → Network → Begun
-begun_by r n = record { number = r.number; place = r.place; detail = r.detail; network = n; table = r.table }
-
--- what was read into lent arrays: its number, place and detail, and where it is not refused the network
-module _ (s : List ℕ) {old : Network} {r : Looked} {n : Network} (o : Opens s old r n) where
-  pub looked_is : opened r.number r.place r.detail (cond (eqb r.number 0) n blank_net) ≡ open_of s
-  unfolding opened_by
-  looked_is = o.answer
-
-  pub looked_net : r.number ≡ 0 → opened r.number r.place r.detail n ≡ open_of s
-  looked_net z =
-      let same : n ≡ cond (eqb r.number 0) n blank_net = rw z in
-      ap (λ (x : Network). opened r.number r.place r.detail x) same ∙ looked_is
+-- what was opened, by the numbers of the answer
+pub opened_is : {A : Type 0} {s : List ℕ} {old n : Network} {r : Result A Refused} → Opens s old r n
+    → (let c = checked_as r in opened c.number c.place c.detail (cond (eqb c.number 0) n blank_net) ≡ open_of s)
+unfolding opened_by
+opened_is o = o.answer
 
 module _ (s t : List ℕ) (events : ℕ) where
-  -- a refusal
-  pub starts_refused : (number place detail : ℕ) {r : Started} (n : Network) → eqb number 0 ≡ false → r ≡ unstarted_at number place detail → refused_at number place detail ≡ begin_of s t events
-      → begun_as r n ≡ begin_of s t events
-  starts_refused number place detail {r} n h e k = rw (e, h) k
+  -- past the first three, the table is refused
+  pub starts_listed : length s ≡ 5120 → length t ≡ 256 → events % 16 ≡ 0 → (r : Refused) {b : Table} → listed (number_of r.refusal) r.place b ≡ list_of t → r.detail ≡ 0
+      → refused_at (number_of r.refusal) r.place r.detail ≡ begin_of s t events
+  starts_listed e f g r k z = rw z (begin_4 s t events e f g k (refusal_not_0 r.refusal))
 
-  pub starts_unsound : length s ≡ 5120 → length t ≡ 256 → events % 16 ≡ 0 → {l : Listed} → l ≡ list_of t → l.number ≡ 0
-      → {old : Network} {r : Looked} {n : Network} → Opens s old r n → (r.number ≡ 0 → ⊥) → refused_at r.number r.place r.detail ≡ begin_of s t events
+  -- the table is read, and the state is refused or read
+  pub starts_opened : length s ≡ 5120 → length t ≡ 256 → events % 16 ≡ 0 → {b : Table} → listed 0 0 b ≡ list_of t
+      → {A : Type 0} (r : Result A Refused) {old n : Network} → Opens s old r n → begun_as r n b ≡ begin_of s t events
   unfolding opened_by
-  starts_unsound e f g k z o h = begin_unsound s t events e f g k z o.answer h
+  starts_opened e f g k (Ok a) o = begin_0 s t events e f g k refl o.answer refl
+  starts_opened e f g k (Err r) o = begin_unsound s t events e f g k refl o.answer (refusal_not_0 r.refusal)
 
-  -- both were read
-  pub starts_0 : length s ≡ 5120 → length t ≡ 256 → events % 16 ≡ 0 → {l : Listed} → l ≡ list_of t → l.number ≡ 0
-      → {old : Network} {r : Looked} {n : Network} → Opens s old r n → r.number ≡ 0
-      → begun_as (record { number = 0; place = 0; detail = 0; present = r.present; table = l.table }) n ≡ begin_of s t events
-  unfolding opened_by
-  starts_0 e f g {l} k z {old} {r} {n} o h =
-      let same : n ≡ cond (eqb r.number 0) n blank_net = rw h in
-      ap (λ (x : Network). record { number = 0; place = 0; detail = 0; network = x; table = l.table }) same ∙ begin_0 s t events e f g k z o.answer h
+-- pending and seen of a network, written into the bytes of one that has its other parts
+pub saved : {s l : List ℕ} (n m : Network) → bytes_of n ≡ s → m ≡ with_seen (with_pending n m.pending) m.seen → l ≡ put_messages 32 s m.pending m.seen → l ≡ bytes_of m
+saved n m b e k =
+    k ∙ ap (λ (x : List ℕ). put_messages 32 x m.pending m.seen) (sym b) ∙ put_messages_lem n m.pending m.seen ∙ ap bytes_of (sym e)
 
-  -- a refusal has nothing that was read
-  begin_blank : ((begin_of s t events).number ≡ 0 → ⊥) → refused_at (begin_of s t events).number (begin_of s t events).place (begin_of s t events).detail ≡ begin_of s t events
-  begin_blank =
-      begin_by s t events (λ (g : Begun). (g.number ≡ 0 → ⊥) → refused_at g.number g.place g.detail ≡ g) (λ k p d z h. refl) λ a b c d h. absurd (h refl)
-
-  module _ (r : Started) (n : Network) (e : begun_as r n ≡ begin_of s t events) where
-    pub started_refused : (r.number ≡ 0 → ⊥) → refused_at r.number r.place r.detail ≡ begin_of s t events
-    started_refused h =
-        ap (λ (x : Begun). refused_at x.number x.place x.detail) e ∙ begin_blank (λ (z : (begin_of s t events).number ≡ 0). h (ap (λ (x : Begun). x.number) e ∙ z))
-
-    -- past the refusals the arrays are the network
-    pub started : r.number ≡ 0 → begun_by r n ≡ begin_of s t events
-    started z =
-        let same : n ≡ cond (eqb r.number 0) n blank_net = rw z in
-        ap (λ (x : Network). begun_by r x) same ∙ e
-
-    pub started_rows : Rows r.table
-    started_rows = subst (λ (x : Begun). Rows x.table) (sym e) (begin_rows s t events)
-
-    pub started_long : r.number ≡ 0 → length s ≡ 5120
-    started_long z = begin_long s t events (sym (ap (λ (x : Begun). x.number) e) ∙ z)
-
-    -- past the refusals the state has the bytes of the network
-    pub started_bytes : Bytes s → r.number ≡ 0 → bytes_of n ≡ s
-    started_bytes h z =
-        let k = started z in
-        ap (λ (x : Begun). bytes_of x.network) k ∙ begin_bytes s t events h (sym (ap (λ (x : Begun). x.number) k) ∙ z)
-
--- pending and seen, written into the bytes of a network
-pub saved : {s l : List ℕ} (n : Network) (pending seen : List ℕ) → bytes_of n ≡ s → l ≡ put_messages 32 s pending seen → l ≡ bytes_of (with_seen (with_pending n pending) seen)
-saved n pending seen b k = k ∙ ap (λ (x : List ℕ). put_messages 32 x pending seen) (sym b) ∙ put_messages_lem n pending seen
+-- a forward, refused or not, leaves the other parts as they were
+pub forward_keeps : (n : Network) (b : Table) (p m : ℕ) {n' : Network} → n' ≡ after n b (forward_event p m) → n' ≡ with_seen (with_pending n n'.pending) n'.seen
+unfolding after if_accepted effect forwarded given moved
+forward_keeps n b p m {n'} e = rw e (first (refusal n b (forward_event p m)))
+  where
+    first : (k : ℕ) → (let x = if_accepted k (effect n b (forward_event p m)) n in x ≡ with_seen (with_pending n x.pending) x.seen)
+    first zero = refl
+    first (suc k) = refl

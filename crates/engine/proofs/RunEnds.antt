@@ -7,13 +7,12 @@ use Rattle.sets.proofs.laws.Bools.{ne_eqb}
 use Rattle.network.specs.declared.Network.{Network}
 use Rattle.network.specs.State.{bytes_of}
 use Rattle.engine.specs.declared.Tally.{Tally}
-use Rattle.engine.specs.declared.Begun.{Begun}
 use Rattle.engine.specs.declared.Answer.{Answer}
-use Rattle.engine.specs.Start.{begin_of}
+use Rattle.engine.specs.Start.{Beginning, begin_of}
 use Rattle.engine.specs.Run.{answered, Final, ran, run_all, RunsTo, written, run_of, Ends}
 
 -- refused before any event
-pub ends_refused : (s t ev : List ℕ) (old : Tally) {g : Begun} → g ≡ begin_of s t (length ev) → (g.number ≡ 0 → ⊥)
+pub ends_refused : (s t ev : List ℕ) (old : Tally) {g : Beginning} → g ≡ begin_of s t (length ev) → (g.number ≡ 0 → ⊥)
     → {r : Answer} → r ≡ answered g.number g.place g.detail 0 → Ends r s old (run_of s t ev old)
 unfolding run_of
 ends_refused s t ev old {g} e h a =
@@ -27,7 +26,7 @@ runs_as e x = record { answer = e ∙ x.answer; network = x.network; tally = x.t
 pub ends_written : {r : Answer} {n : Network} {new : Tally} {f : Final} {s : List ℕ} → RunsTo (ran r n) new f → s ≡ bytes_of n → Ends r s new (written f)
 ends_written run k = record { answer = run.answer; state = k ∙ ap bytes_of run.network; tally = run.tally }
 
-pub ends_run : (s t ev : List ℕ) (old : Tally) {g : Begun} → g ≡ begin_of s t (length ev) → g.number ≡ 0 → {r : Answer} {s' : List ℕ} {new : Tally}
+pub ends_run : (s t ev : List ℕ) (old : Tally) {g : Beginning} → g ≡ begin_of s t (length ev) → g.number ≡ 0 → {r : Answer} {s' : List ℕ} {new : Tally}
     → Ends r s' new (written (run_all ev g.table g.network)) → Ends r s' new (run_of s t ev old)
 unfolding run_of
 ends_run s t ev old e z x = rw (← e, z) x

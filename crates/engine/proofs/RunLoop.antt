@@ -71,9 +71,11 @@ module _ (ev : List ℕ) (b : Table) (count : ℕ) where
       one_more l = omega arith
 
   -- no event is left
-  pub going_end : {place : ℕ} {n : Network} {t : Tally} {f : Final} → Going ev b count place n t f → place ≡ count → f ≡ all_done place t n
+  pub going_end : {place : ℕ} {n : Network} {t : Tally} {f : Final} → Going ev b count place n t f → count ≤ place → f ≡ all_done count t n
   unfolding run_from
-  going_end {place} {n} {t} {f} g h = sym g.same ∙ ap (λ (k : ℕ). run_from k ev place b n t) (none h)
+  going_end {place} {n} {t} {f} g h =
+      let e : place ≡ count = omega (arith, g.within) in
+      sym g.same ∙ ap (λ (k : ℕ). run_from k ev place b n t) (none e) ∙ ap (λ (k : ℕ). all_done k t n) e
     where
       none : place ≡ count → count - place ≡ 0
       none e = omega arith

@@ -2,16 +2,13 @@
 use mathlib.Core.Path.{◌≡◌, sym, ap, subst, ◌∙◌}
 use mathlib.Core.List.{List}
 use Prim.Native.Nat.{ℕ, ◌+◌, ◌≤◌, ◌<◌}
-use native.Mathlib.Omega.{arith}
 use Rattle.sets.specs.Set.{size}
 use Rattle.network.specs.declared.Network.{Network}
 use Rattle.network.specs.declared.Table.{Table}
-use Rattle.events.specs.declared.Read.{Read}
-use Rattle.events.specs.Event.{read_at}
+use Rattle.engine.specs.Standin.{Read, read_at}
 use Rattle.floodnet.specs.declared.Turned.{Turned}
 use Rattle.engine.specs.declared.Tally.{Tally}
-use Rattle.engine.specs.declared.Ran.{Ran}
-use Rattle.engine.specs.Run.{answered, tallied_of, turn_of, Turn, Final, stops_at, all_done, RunsTo}
+use Rattle.engine.specs.Run.{Ran, answered, tallied_of, turn_of, Turn, Final, stops_at, all_done, RunsTo}
 use Rattle.engine.specs.RunLaws.{outcome_at}
 use Rattle.engine.proofs.RunLoop.{Going, going_on, going_stop, going_end}
 use Rattle.engine.proofs.TurnLaws.{refused_same}
@@ -44,9 +41,9 @@ module _ (ev : List ℕ) (b : Table) (count : ℕ) {place : ℕ} {n : Network} {
       (j ∙ ap (λ (x : Turned). tallied_of t x.kind (size x.receivers)) e)
 
   -- no event is left
-  pub ran_end : count ≤ place → RunsTo (ran_at 0 0 place n) t f
+  pub ran_end : count ≤ place → RunsTo (ran_at 0 0 count n) t f
   ran_end h =
-      let s : f ≡ all_done place t n = going_end ev b count g (omega (arith, g.within)) in
+      let s : f ≡ all_done count t n = going_end ev b count g h in
       record {
         answer = sym (ap (λ (x : Final). x.answer) s);
         network = sym (ap (λ (x : Final). x.network) s);

@@ -1,9 +1,11 @@
 -- The single forward, and reading and writing, as entry points (document 01, "Events", "Records"). Assumes nothing.
-use Rattle.std.specs.Prelude.{cond, ◌&&◌, List, ℕ, eqb, ltb, length, ◌≡◌}
+use Rattle.std.specs.Prelude.{cond, Result, Ok, Err, ◌&&◌, List, ℕ, eqb, ltb, length, ◌≡◌}
 use Rattle.sets.specs.Set.{size}
 use Rattle.network.specs.declared.Network.{Network}
 use Rattle.network.specs.declared.Table.{Table}
 use Rattle.network.specs.declared.Checked.{Checked}
+use Rattle.network.specs.declared.Refused.{Refused}
+use Rattle.network.specs.Refusal.{number_of}
 use Rattle.network.specs.Network.{peer, message}
 use Rattle.network.specs.Rules.{checked}
 use Rattle.network.specs.State.{open_of, bytes_of}
@@ -15,6 +17,11 @@ use Rattle.engine.specs.Start.{begin_of}
 -- an answer by its parts: "the set of peers that newly hold the message; the count becomes the size of that set" (document 02, E2)
 abbrev pub forwarded_by : ℕ → ℕ → ℕ → ℕ → Forwarded
 forwarded_by number place detail to = record { number = number; detail = detail; place = place; deliveries = size to; receivers = to }
+
+-- the answer for the receivers of a forward, or for its refusal: nobody newly holds the message, "0 if refused"
+abbrev pub forwarded_as : Result ℕ Refused → Forwarded
+forwarded_as (Ok to) = forwarded_by 0 0 0 to
+forwarded_as (Err r) = forwarded_by (number_of r.refusal) r.place r.detail 0
 
 -- an answer, and the buffer that goes with it
 pub record Forwards : Type 0 where

@@ -1,3 +1,4 @@
+pub mod Standin
 pub mod Start
 pub mod Run
 pub mod RunLaws

@@ -3,23 +3,20 @@
 --   holds the state after the accepted events."
 --   "The host lends a tally record that the engine updates event by event: produced, forwards, deliveries, 64 bits each. It
 --   starts from zero in each run that gets past" the refusals before any event.
-use Rattle.std.specs.Prelude.{◌≡◌, cond, List, ℕ, zero, suc, ◌+◌, ◌/◌, ◌^◌, ◌<◌, eqb, length}
+use Rattle.std.specs.Prelude.{◌≡◌, cond, Some, None, Ok, Err, List, ℕ, zero, suc, ◌+◌, ◌/◌, ◌^◌, ◌<◌, eqb, length}
 use Rattle.sets.specs.Set.{size}
 use Rattle.network.specs.declared.Network.{Network}
 use Rattle.network.specs.declared.Table.{Table}
 use Rattle.network.specs.State.{bytes_of}
-use Rattle.events.specs.declared.Read.{Read}
-use Rattle.events.specs.declared.Read.TheVariants.{Taken, End, Unknown, Unfit}
-use Rattle.events.specs.Event.{reading_of, read_at}
+use Rattle.network.specs.Refusal.{number_of}
 use Rattle.events.specs.declared.kind.Kind.{Kind}
 use Rattle.events.specs.declared.kind.Kind.TheVariants.{Skip, Produce, Forward, Subscribe, Unsubscribe, Leave, Join}
 use Rattle.floodnet.specs.declared.Turned.{Turned}
 use Rattle.floodnet.specs.Step.{after, turned_of}
 use Rattle.engine.specs.declared.Tally.{Tally}
 use Rattle.engine.specs.declared.Answer.{Answer}
-use Rattle.engine.specs.declared.Begun.{Begun}
-use Rattle.engine.specs.declared.Ran.{Ran}
-use Rattle.engine.specs.Start.{begin_of}
+use Rattle.engine.specs.Start.{Beginning, begin_of}
+use Rattle.engine.specs.Standin.{Read, read_at}
 use Rattle.events.specs.declared.Event.TheVariants.{Skip, Produce, Forward, Subscribe, Unsubscribe, Leave, Join}
 use Rattle.events.specs.Fits.{EventFits}
 
@@ -59,10 +56,9 @@ refused_by number = record { number = number; kind = Skip; receivers = 0 }
 
 -- what was read is done, or refused by its number, 6 or 7
 unfoldable pub turn_of : Table → Network → Read → Outcome
-turn_of b n (Taken e) = record { turned = turned_of n b e; network = after n b e }
-turn_of b n End = record { turned = refused_by (reading_of End).number; network = n }
-turn_of b n Unknown = record { turned = refused_by (reading_of Unknown).number; network = n }
-turn_of b n Unfit = record { turned = refused_by (reading_of Unfit).number; network = n }
+turn_of b n (Some (Ok e)) = record { turned = turned_of n b e; network = after n b e }
+turn_of b n (Some (Err refusal)) = record { turned = refused_by (number_of refusal); network = n }
+turn_of b n None = record { turned = refused_by 0; network = n }
 
 -- m and r are what becomes of n, and its answer
 abbrev pub Turn : Table → Network → Read → Network → Turned → Type 0
@@ -74,7 +70,7 @@ Turn b n read m r = (m ≡ (turn_of b n read).network) × (r ≡ (turn_of b n re
 abbrev pub answered : ℕ → ℕ → ℕ → ℕ → Answer
 answered number place detail accepted = record { number = number; detail = detail; place = place; accepted = accepted }
 
--- how a run ended: its answer, the tally and the network
+-- how a run ends: its answer, the tally and the network
 pub record Final : Type 0 where
   pub answer : Answer
   pub tally : Tally
@@ -100,7 +96,12 @@ run_from (suc k) ev place b n t =
 unfoldable pub run_all : List ℕ → Table → Network → Final
 run_all ev b n = run_from (length ev / 16) ev 0 b n zero_tally
 
--- how it ended, by its parts
+-- how a run over events ended: its answer, and the network then
+pub record Ran : Type 0 where
+  pub answer : Answer
+  pub network : Network
+
+-- the same, by its parts
 abbrev pub ran : Answer → Network → Ran
 ran r n = record { answer = r; network = n }
 
@@ -119,7 +120,7 @@ pub record Ending : Type 0 where
   pub state : List ℕ
 
 -- refused before any event: "the accepted count is 0 and all buffers, the tally included, stay untouched"
-abbrev pub untouched : Begun → Tally → List ℕ → Ending
+abbrev pub untouched : Beginning → Tally → List ℕ → Ending
 untouched g old s = record { answer = answered g.number g.place g.detail 0; tally = old; state = s }
 
 abbrev pub written : Final → Ending
@@ -138,7 +139,6 @@ pub record Ends (r : Answer) (s : List ℕ) (t : Tally) (e : Ending) : Type 0 wh
 
 -- what was read from bytes is an event in range, or none
 unfoldable pub ReadFits : Read → Type 0
-ReadFits (Taken e) = EventFits e
-ReadFits End = Unit {0}
-ReadFits Unknown = Unit {0}
-ReadFits Unfit = Unit {0}
+ReadFits (Some (Ok e)) = EventFits e
+ReadFits (Some (Err refusal)) = Unit {0}
+ReadFits None = Unit {0}

@@ -3,8 +3,8 @@ use Rattle.std.specs.Prelude.{List, ℕ}
 use Rattle.sets.specs.Set.{size}
 use Rattle.network.specs.declared.Network.{Network}
 use Rattle.network.specs.declared.Table.{Table}
-use Rattle.events.specs.Event.{read_at}
 use Rattle.engine.specs.declared.Tally.{Tally}
+use Rattle.engine.specs.Standin.{read_at}
 use Rattle.engine.specs.Run.{tallied_of, Outcome, turn_of}
 
 -- the outcome of the event at a place, and the tally after it

@@ -4,5 +4,6 @@ pub mod ForwardAlone
 pub mod RunCounts
 pub mod RunLaws
 pub mod RunSound
+pub mod Standin
 pub mod StartFacts
 pub mod StartLaws

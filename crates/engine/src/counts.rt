@@ -1,12 +1,13 @@
-// The tally: an update by value, and the same on the three counts of a record that is lent, by the receivers of the event.
+// The tally: an update by value, and the same on a tally that is lent, by the receivers of the event.
 ghost use Rattle.std.specs.Prelude.{◌≡◌};
 ghost use Rattle.sets.specs.Set.{size};
-ghost use Rattle.engine.specs.Run.{tallied_of, tally, Room};
+ghost use Rattle.engine.specs.Run.{tallied_of, Room};
 
 use crate::Tally;
 use events::kind::Kind;
 
 // One accepted event more.
+#[tactic(auto, unfolding(crate::specs::Run::tallied_of))]
 pub(crate) fn tallied(t: Tally, kind: Kind, deliveries: u32) -> Tally
     requires { Room t deliveries }
     ensures { result ≡ tallied_of t kind deliveries }
@@ -14,41 +15,23 @@ pub(crate) fn tallied(t: Tally, kind: Kind, deliveries: u32) -> Tally
     match kind {
         Kind::Produce => Tally {
             produced: t.produced + 1,
-            forwards: t.forwards,
-            deliveries: t.deliveries,
+            ..t
         },
         Kind::Forward => Tally {
-            produced: t.produced,
             forwards: t.forwards + 1,
             deliveries: t.deliveries + deliveries as u64,
+            ..t
         },
         _ => t,
     }
 }
 
-// The same on counts that are lent; each receiver is one delivery.
-pub(crate) fn count_in(
-    produced: &mut u64,
-    forwards: &mut u64,
-    deliveries: &mut u64,
-    kind: Kind,
-    receivers: u32,
-)
-    requires { Room (tally produced.old forwards.old deliveries.old) (size receivers) }
-    ensures { tally produced.new forwards.new deliveries.new ≡ tallied_of
-        (tally produced.old forwards.old deliveries.old) kind (size receivers) }
-{
-    let count = sets::size32(receivers);
-    let t = tallied(
-        Tally {
-            produced: *produced,
-            forwards: *forwards,
-            deliveries: *deliveries,
-        },
-        kind,
-        count,
-    );
-    *produced = t.produced;
-    *forwards = t.forwards;
-    *deliveries = t.deliveries;
+impl Tally {
+    // The same on a tally that is lent; each receiver is one delivery.
+    pub(crate) fn count_in(&mut self, kind: Kind, receivers: u32)
+        requires { Room self.old (size receivers) }
+        ensures { self.new ≡ tallied_of self.old kind (size receivers) }
+    {
+        *self = tallied(*self, kind, sets::size32(receivers));
+    }
 }

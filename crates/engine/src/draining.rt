@@ -1,35 +1,48 @@
 // The drain by rounds (document 01, "Drain by rounds").
 ghost use Rattle.std.specs.Prelude.{◌≡◌};
-ghost use Rattle.engine.specs.Draining.{drained, refused_drain, drain_end_of};
+ghost use Rattle.engine.specs.Draining.{drained_as, drain_end_of};
 
-use crate::{Drained, start};
+use crate::{Drained, standin, start};
+use drain::Drains;
+use network::Refused;
 
-// Nothing was drained.
-fn refused(number: u8, place: usize, detail: u8) -> Drained
-    ensures { result ≡ refused_drain number place detail }
-{
-    Drained {
-        number,
-        detail,
-        place,
-        forwards: 0,
-        rounds: 0,
-        quiet: false,
+// The answer for what was drained; of a refusal, "counts 0, not quiet".
+impl From<Result<Drains, Refused>> for Drained {
+    ghost from_gives = { λ answer drained. drained ≡ drained_as answer };
+
+    fn from(answer: Result<Drains, Refused>) -> Drained {
+        match answer {
+            Ok(drains) => Drained {
+                number: 0,
+                detail: 0,
+                place: 0,
+                forwards: drains.forwards,
+                rounds: drains.rounds,
+                quiet: drains.quiet,
+            },
+            Err(refused) => Drained {
+                number: u8::from(refused.refusal),
+                detail: refused.detail,
+                place: refused.place,
+                forwards: 0,
+                rounds: 0,
+                quiet: false,
+            },
+        }
     }
 }
 
-// What the drain answered.
-fn done(d: drain::Drains) -> Drained
-    ensures { result ≡ drained d.forwards d.rounds d.quiet }
+// The drain of what was read: what concerns messages is written into the state.
+fn drain(state: &mut [u8], table: &[u8], budget: u32) -> Result<Drains, Refused>
+    ensures { (drained_as result ≡ (drain_end_of state.old table.now budget).answer) ×
+        (state.new ≡ (drain_end_of state.old table.now budget).state) }
 {
-    Drained {
-        number: 0,
-        detail: 0,
-        place: 0,
-        forwards: d.forwards,
-        rounds: d.rounds,
-        quiet: d.quiet,
-    }
+    let mut n = standin::blank();
+    let mut rows = standin::blank_table();
+    start::start(&*state, table, 0, &mut n, &mut rows)?;
+    let drains = standin::drain_all(&mut n, &rows, budget);
+    standin::save_messages(&n, state);
+    Ok(drains)
 }
 
 // Drains the state by rounds, within a budget of forwards: "it answers the forwards made, the rounds finished, and whether nothing
@@ -38,29 +51,5 @@ pub fn relay_drain(state: &mut [u8], table: &[u8], budget: u32) -> Drained
     ensures { (result ≡ (drain_end_of state.old table.now budget).answer) ×
         (state.new ≡ (drain_end_of state.old table.now budget).state) }
 {
-    let mut pubs = [0u32; 32];
-    let mut subs = [0u32; 32];
-    let mut neighbours = [0u32; 32];
-    let mut pending = [0u64; 32];
-    let mut seen = [0u64; 32];
-    let mut known = [0u32; 1024];
-    let begun = start::start(
-        &*state,
-        table,
-        0,
-        &mut pubs,
-        &mut subs,
-        &mut neighbours,
-        &mut pending,
-        &mut seen,
-        &mut known,
-    );
-    if begun.number != 0 {
-        return refused(begun.number, begun.place, begun.detail);
-    }
-    let rows = begun.table;
-    let topics = rows.topics;
-    let drains = drain::drain_all(&mut pending, &mut seen, &known, &topics, budget);
-    network::save_messages(&pending, &seen, state);
-    done(drains)
+    Drained::from(drain(state, table, budget))
 }

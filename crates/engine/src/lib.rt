@@ -12,18 +12,21 @@ mod counts; // counts.rt: the update of the tally
 mod draining; // draining.rt: the drain by rounds
 mod imaging; // imaging.rt: the image of a state, written to a second buffer
 pub mod running; // running.rt: a run over a list of events
+mod standin;
 pub mod start; // start.rt: the refusals before any event
 
-ghost use Rattle.engine.specs.Run.{run_of, Ends};
+ghost use Rattle.std.specs.Prelude.{◌≡◌};
+ghost use Rattle.network.specs.Refusal.{number_of};
+ghost use Rattle.engine.specs.Run.{answered, run_of, Ends};
 
 pub use alone::{relay_check, relay_copy, relay_forward};
 pub use draining::relay_drain;
 pub use imaging::relay_image;
-use network::{Network, Table};
+use network::{Network, Refused, Table};
 
 // The counts that a host lends: updated event by event.
 #[repr(C)]
-#[derive(Clone, Copy)]
+#[derive(Clone, Copy, Debug, PartialEq, Eq)]
 pub struct Tally {
     pub produced: u64,
     pub forwards: u64,
@@ -33,7 +36,7 @@ pub struct Tally {
 // The answer of a run: "a number, a place and the count of accepted events". In this and the following answers the detail, document 02's E1,
 // lies where C has padding: the lowest peer or topic at fault where the number is 23 to 25, else 0.
 #[repr(C)]
-#[derive(Clone, Copy)]
+#[derive(Clone, Copy, Debug, PartialEq, Eq)]
 pub struct Answer {
     pub number: u8,
     pub detail: u8,
@@ -43,7 +46,7 @@ pub struct Answer {
 
 // The answer of a single forward: the peers that newly hold the message (document 02's E2, where C has padding), and their number.
 #[repr(C)]
-#[derive(Clone, Copy)]
+#[derive(Clone, Copy, Debug, PartialEq, Eq)]
 pub struct Forwarded {
     pub number: u8,
     pub detail: u8,
@@ -54,7 +57,7 @@ pub struct Forwarded {
 
 // The answer of a drain: a refusal and its place, or the forwards made, the rounds finished and whether nothing is pending.
 #[repr(C)]
-#[derive(Clone, Copy)]
+#[derive(Clone, Copy, Debug, PartialEq, Eq)]
 pub struct Drained {
     pub number: u8,
     pub detail: u8,
@@ -64,45 +67,51 @@ pub struct Drained {
     pub quiet: bool,
 }
 
-// What an entry point begins with: zeros and what was read, or the number, place and detail of a refusal.
+// What an entry point begins with, by value.
 #[derive(Clone, Copy)]
 pub struct Begun {
-    pub number: u8,
-    pub place: usize,
-    pub detail: u8,
     pub network: Network,
     pub table: Table,
 }
 
-// The same where the network was read into lent arrays: who is present, and the table.
-#[derive(Clone, Copy)]
-pub struct Started {
-    pub number: u8,
-    pub place: usize,
-    pub detail: u8,
-    pub present: u32,
-    pub table: Table,
+impl Answer {
+    // So many events were accepted, and all are done.
+    fn done(accepted: usize) -> Answer
+        ensures { result ≡ answered 0 0 0 accepted }
+    {
+        Answer {
+            number: 0,
+            detail: 0,
+            place: 0,
+            accepted,
+        }
+    }
+
+    // Refused, after so many accepted events.
+    fn refused(refused: Refused, accepted: usize) -> Answer
+        ensures { result ≡ answered (number_of refused.refusal) refused.place refused.detail accepted }
+    {
+        Answer {
+            number: u8::from(refused.refusal),
+            detail: refused.detail,
+            place: refused.place,
+            accepted,
+        }
+    }
 }
 
-// How a run over events ended: its answer, and the network then.
-#[derive(Clone, Copy)]
-pub struct Ran {
-    pub answer: Answer,
-    pub network: Network,
-}
-
-// The run over a list of events. The host's own tally record is lent on, count by count, and is updated event by event; events are
-// taken through a reader.
+// The run over a list of events. Refused before any event with everything untouched, or the events are run and the state is written: the
+// network is read into a place of this function's own, run on there and written from there. The tally is the host's own, updated event by event.
 pub fn relay_run(state: &mut [u8], table: &[u8], events: &[u8], tally: &mut Tally) -> Answer
     ensures { Ends result state.new tally.new
         (run_of state.old table.now events.now tally.old) }
 {
-    running::run_core(
-        state,
-        table,
-        events,
-        &mut tally.produced,
-        &mut tally.forwards,
-        &mut tally.deliveries,
-    )
+    let mut n = standin::blank();
+    let mut rows = standin::blank_table();
+    if let Err(refused) = start::start(&*state, table, events.len(), &mut n, &mut rows) {
+        return Answer::refused(refused, 0);
+    }
+    let answer = running::run_events(&mut n, &rows, events, tally);
+    standin::save(&n, state);
+    answer
 }

@@ -10,6 +10,6 @@ returns c =
     let input = c.args.input.now in
     printed_as c.run.ensures
     (flood_run input c.if-input-gt65536.false
-    (state_part input c.least-middle.ensures)
-    (table_part input c.least-middle.ensures c.least-last.ensures)
-    (events_part input c.least-last.ensures))
+    (state_part input c.min-middle.ensures)
+    (table_part input c.min-middle.ensures c.min-last.ensures)
+    (events_part input c.min-last.ensures))

@@ -1,21 +1,19 @@
 -- `console::run` meets its contract. Assumes nothing.
-use mathlib.Core.Path.{sym, subst}
-use Rattle.network.specs.Network.{Rows}
-use Rattle.engine.specs.declared.Begun.{Begun}
-use Rattle.engine.specs.laws.StartFacts.{begin_rows}
+use mathlib.Core.Path.{refl}
+use Rattle.engine.specs.laws.StartFacts.{started_rows}
+use Rattle.engine.specs.laws.Standin.{refusal_not_0}
 use Rattle.console.proofs.ConsoleLaws.{printed_as, printed_report, text_refused, text_run}
+use Rattle.engine.specs.Run.{ran}
 use Rattle.console.proofs.run.Goals as goal
 
-pub returns-then-begun-ne0 : goal.returns-then-begun-ne0
-returns-then-begun-ne0 c =
-    printed_as c.refused.ensures (text_refused _ _ _ c.begin-begun.ensures c.if-begun-ne0.true)
+pub returns-in-Err : goal.returns-in-Err
+returns-in-Err c =
+    printed_as c.refused.ensures (text_refused _ _ _ c.in-Err.ensures (refusal_not_0 c.in-Err.e.refusal))
 
-pub run_events-ran-requires : goal.run_events-ran-requires
-run_events-ran-requires c =
-    let g = c.begin-begun in
-    subst (λ (x : Begun). Rows x.table) (sym g.ensures) (begin_rows _ _ _)
+pub run_events-answer-requires : goal.run_events-answer-requires
+run_events-answer-requires c = started_rows _ _ _ c.in-Ok.ensures
 
 pub returns : goal.returns
 returns c =
-    printed_report c.report.ensures
-    (text_run _ _ _ c.begin-begun.ensures c.if-begun-ne0.false c.run_events-ran.result c.run_events-ran.ensures c.shown-show.ensures)
+    let a = c.run_events-answer in
+    printed_report c.report.ensures (text_run _ _ _ c.in-Ok.ensures refl (ran a.result a.new.n) a.ensures c.shown-show.ensures)

@@ -1,13 +1,17 @@
--- What `drain_all` promises, of a sound network and of two outcomes; and what its loop keeps, said of the lent arrays. Assumes nothing.
-use Rattle.std.specs.Prelude.{◌≡◌, ◌⊎◌, Bool, List, [], ℕ, suc, ◌+◌, ◌-◌, ◌≤◌, ◌<◌, length, take}
+-- What `drain_all` promises, of a sound network and of two outcomes; and what its loop keeps, said of the arrays and of the network that is lent.
+-- Assumes nothing.
+use Rattle.std.specs.Prelude.{◌≡◌, ◌⊎◌, Bool, refl, List, [], ◌∷◌, ℕ, suc, ◌+◌, ◌-◌, ◌≤◌, ◌<◌, length, take}
 use Rattle.std.proofs.Math.Path.{sym, ap}
 use Rattle.std.proofs.Common.{◌∙◌, arith, length-take}
 use Rattle.std.proofs.Math.Logic.{inl, inr}
-use Rattle.flooding.specs.Machine.{due, Drained}
+use Rattle.flooding.specs.Machine.{Pair, pair, due, Drained, run}
 use Rattle.network.specs.declared.Network.{Network}
 use Rattle.network.specs.Network.{Rows, table}
 use Rattle.network.specs.laws.Network.{bare}
 use Rattle.network.specs.Sound.{Sound}
+use Rattle.network.specs.declared.Table.{Table}
+use Rattle.floodnet.specs.Produce.{holders}
+use Rattle.floodnet.specs.Forward.{moved, receivers, given, forwarded}
 use Rattle.floodnet.specs.View.{view, fwd}
 use Rattle.floodnet.specs.Lent.{with_messages}
 use Rattle.drain.specs.Drain.{drain_of, drain_within, quiet_of}
@@ -103,3 +107,51 @@ module _ {g ts e f e' f' : List ℕ} {budget made k : ℕ} (v : Draining g ts e 
           going = λ n os. going_part (view (table ts os)) (fwd (table ts os)) 32 64 budget (with_messages n e f g) (v.going n os)
               (rw (due_is n os) (omega (arith, some, list))) (rw (due_is n os) (leads n os)) (rw (due_is n os) makes) (rw (due_is n os) (λ z. h (z ∙ sym list)));
         }
+
+-- ---- the network that is lent
+
+-- Forwards change what is pending and what is seen, and nothing else.
+pub run_others : (b : Table) (n : Network) (l : List Pair) → run (fwd b) n l ≡ with_messages n (run (fwd b) n l).pending (run (fwd b) n l).seen n.known
+unfolding run fwd forwarded given moved
+run_others b n [] = refl
+run_others b n (pair p m ∷ l) = run_others b (fwd b n p m) l
+
+-- They look at these, at the known subscribers and at the topics: so they lead from what one network has to what it has then in every other.
+pub run_leads : (b : Table) (n : Network) (l : List Pair) → Leads n.known b.topics n.pending n.seen l (run (fwd b) n l).pending (run (fwd b) n l).seen
+unfolding run fwd forwarded given moved receivers holders
+run_leads b n [] m os = refl
+run_leads b n (pair p k ∷ l) m os = run_leads b (fwd b n p k) l m os
+
+-- What the loop over the rounds keeps, from the network n to o.
+pub record Rounds (b : Table) (budget : ℕ) (n o : Network) (made k : ℕ) : Type 0 where
+  pub fewer : k ≤ made
+  pub others : o ≡ with_messages n o.pending o.seen n.known
+  pub draining : Draining n.known b.topics n.pending n.seen budget o.pending o.seen made k
+
+-- before its first turn
+pub rounds_none : (b : Table) (budget : ℕ) (n : Network) → Rounds b budget n n 0 0
+rounds_none b budget n = record { fewer = omega arith; others = refl; draining = lent_none n.known b.topics n.pending n.seen budget }
+
+-- a turn, a round from o to u of j forwards where w pairs are pending: it forwards some, and was finished or not
+module _ {b : Table} {budget made k w j : ℕ} {n o u : Network} (v : Rounds b budget n o made k) (waits : w ≡ waiting_of o.pending) (some : 0 < w) (spare : made < budget)
+    (leads : u ≡ run (fwd b) o (take (budget - made) (list_of o.pending 32))) (makes : j ≡ length (take (budget - made) (list_of o.pending 32))) where
+  abbrev l : List Pair
+  l = take (budget - made) (list_of o.pending 32)
+
+  pub round_leads : Leads n.known b.topics o.pending o.seen l u.pending u.seen
+  round_leads = rw (leads, sym (ap (λ (x : Network). x.known) v.others)) (run_leads b o l)
+
+  other : u ≡ with_messages n u.pending u.seen n.known
+  other = rw leads (run_others b o l ∙ ap (λ (x : Network). with_messages x (run (fwd b) o l).pending (run (fwd b) o l).seen x.known) v.others)
+
+  busy : w ≡ 0 → ⊥
+  busy z = omega (arith, some, z)
+
+  pub round_some : 0 < j
+  round_some = lent_moves v.draining waits busy round_leads makes spare
+
+  pub round_full : j ≡ w → Rounds b budget n u (made + j) (k + 1)
+  round_full h = record { fewer = omega (arith, v.fewer, round_some); others = other; draining = lent_round v.draining waits busy round_leads makes h }
+
+  pub round_part : (j ≡ w → ⊥) → Rounds b budget n u (made + j) k
+  round_part h = record { fewer = omega (arith, v.fewer); others = other; draining = lent_part v.draining waits busy round_leads makes h }

@@ -6,14 +6,15 @@ use mathlib.Core.List.{List, [], ◌∷◌, ◌++◌}
 use Prim.Native.Nat.{ℕ, zero, suc, ◌+◌, ◌-◌, ◌^◌, ◌≤◌, ◌<◌}
 use Rattle.std.proofs.Math.Nat.{sub-zero}
 use native.Mathlib.Omega.{arith}
-use Rattle.std.proofs.Math.ListN.{length, take}
+use Rattle.std.proofs.Math.ListN.{length, take, length-take}
+use Rattle.std.proofs.Math.Decide.{dec_lt}
 use Rattle.std.proofs.Math.Seq.{take-nil}
 use Rattle.sets.specs.Set.{has, minus, only, lowest, count, digit}
 use Rattle.sets.specs.Rising.{rising}
 use Rattle.sets.proofs.laws.Bools.{bool_ext, and_both, and_yes}
 use Rattle.sets.proofs.laws.Members.{has_none}
 use Rattle.sets.proofs.laws.Bounds.{minus_lt}
-use Rattle.sets.proofs.laws.Rising.{rising_empty, rising_lowest}
+use Rattle.sets.proofs.laws.Rising.{rising_empty, rising_lowest, length_rising}
 use Rattle.flooding.specs.Machine.{Pair, pair, run, todo, row}
 use Rattle.sets.proofs.laws.Sums.{sum_same, sum_zero}
 use Rattle.sets.proofs.laws.Counts.{size_count, size_empty}
@@ -21,6 +22,10 @@ use Rattle.flooding.specs.Network.{Net}
 use Rattle.drain.specs.Pairs.{pairs_of, list_of}
 
 -- ---- forwards of one peer, while the budget lasts
+
+-- The pairs of one peer are as many as the messages of its word.
+pub pairs_count : (p w : ℕ) → length (pairs_of p w 64) ≡ count 64 (has w)
+pairs_count p w = length_rising (λ m. pair p m ∷ []) (λ m. refl) 64 w
 
 -- What such a loop keeps: the pairs of `rest` are still to be forwarded, as far as what is left of the budget goes; then all is done.
 module _ {S : Type 0} (fwd : S → ℕ → ℕ → S) (start : S) (p todo left : ℕ) where
@@ -70,6 +75,14 @@ module _ {S : Type 0} (fwd : S → ℕ → ℕ → S) (start : S) (p todo left :
       empty (inr d) =
           let k : left - made ≡ 0 = omega arith in
           rw k
+
+  -- while the budget has more forwards, and there are more pairs than it had, some are left
+  pub walk_some : {now : S} {rest made k : ℕ} → Walk now rest made → k ≡ count 64 (has todo) → left < k → made < left → 0 < rest
+  walk_some {now} {rest} {made} {k} v h many l = go (dec_lt 0 rest)
+    where
+      go : Dec (0 < rest) → 0 < rest
+      go (yes b) = b
+      go (no b) = absurd (omega (arith, (walk_done v (inl (omega (arith, b)))).0, length-take left (pairs_of p todo 64), pairs_count p todo, h))
 
 -- ---- how many are pending
 

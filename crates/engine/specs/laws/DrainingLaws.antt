@@ -10,9 +10,8 @@ use Rattle.drain.specs.declared.Drains.{Drains}
 use Rattle.floodnet.specs.Lent.{with_messages}
 use Rattle.drain.specs.Lent.{DrainsTo}
 use Rattle.drain.specs.laws.LentLaws.{drains_sound}
-use Rattle.engine.specs.declared.Begun.{Begun}
 use Rattle.engine.specs.declared.Drained.{Drained}
-use Rattle.engine.specs.Start.{begin_of}
+use Rattle.engine.specs.Start.{Beginning, begin_of}
 use Rattle.engine.specs.laws.StartFacts.{begin_rows, begin_long, begin_sound, begin_3_never}
 use Rattle.engine.specs.Draining.{drained, refused_drain, drain_end_of}
 
@@ -32,7 +31,7 @@ module _ (s t : List ℕ) where
   begun_never_3 = begin_3_never s t 0
 
   -- the same of what the code has read, as it asks for it
-  module _ {g : Begun} (e : g ≡ begin_of s t 0) where
+  module _ {g : Beginning} (e : g ≡ begin_of s t 0) where
     pub begun_topics : (i : ℕ) → get_or g.table.topics i 0 < 32
     begun_topics = rw e begun_rows.topics_fit
 
@@ -46,12 +45,12 @@ abbrev pub Ended : (s t : List ℕ) → ℕ → Drained → List ℕ → Type 0
 Ended s t budget r now_s = (r ≡ (drain_end_of s t budget).answer) × (now_s ≡ (drain_end_of s t budget).state)
 
 -- it is refused
-pub drain_refused : {g : Begun} {r : Drained} (s t : List ℕ) (budget : ℕ) → g ≡ begin_of s t 0 → (g.number ≡ 0 → ⊥) → r ≡ refused_drain g.number g.place g.detail → Ended s t budget r s
+pub drain_refused : {g : Beginning} {r : Drained} (s t : List ℕ) (budget : ℕ) → g ≡ begin_of s t 0 → (g.number ≡ 0 → ⊥) → r ≡ refused_drain g.number g.place g.detail → Ended s t budget r s
 unfolding drain_end_of
 drain_refused {g} s t budget e h k = (rw (← e, ne_eqb h) k, rw (← e, ne_eqb h))
 
 -- it is drained
-pub drain_done : {g : Begun} {e f : List ℕ} {r : Drains} (s t now_s : List ℕ) (budget : ℕ) → Bytes s → g ≡ begin_of s t 0 → g.number ≡ 0
+pub drain_done : {g : Beginning} {e f : List ℕ} {r : Drains} (s t now_s : List ℕ) (budget : ℕ) → Bytes s → g ≡ begin_of s t 0 → g.number ≡ 0
     → DrainsTo g.network.known g.table.topics g.network.pending g.network.seen budget e f r
     → now_s ≡ bytes_of (with_messages g.network e f g.network.known)
     → {x : Drained} → x ≡ drained r.forwards r.rounds r.quiet → Ended s t budget x now_s

@@ -18,9 +18,8 @@ use Rattle.floodnet.specs.Refusals.{refusal_forward}
 use Rattle.floodnet.specs.Forward.{forwarded, receivers}
 use Rattle.floodnet.specs.Step.{refusal, effect, if_accepted, after, receivers_of, turned, turned_of}
 use Rattle.floodnet.specs.laws.StepLaws.{turned_number}
-use Rattle.engine.specs.declared.Begun.{Begun}
 use Rattle.engine.specs.declared.Forwarded.{Forwarded}
-use Rattle.engine.specs.Start.{begin_of}
+use Rattle.engine.specs.Start.{Beginning, begin_of}
 use Rattle.engine.specs.Alone.{forward_on, forward_of, forwarded_by, Gives}
 
 -- the event
@@ -85,7 +84,7 @@ module _ (s : List ℕ) (n : Network) (b : Table) (p m : ℕ) where
       let d : x.receivers ≡ receivers n b (peer p) (message m) = ap (λ (u : Turned). u.receivers) q ∙ forward_receivers n b p m y in
       (k ∙ rw (v, w, y, d), rw (v, w, y) (c ∙ ap bytes_of (a ∙ forward_after n b p m y)))
 
-module _ (s t : List ℕ) (p m : ℕ) {g : Begun} (e : g ≡ begin_of s t 0) where
+module _ (s t : List ℕ) (p m : ℕ) {g : Beginning} (e : g ≡ begin_of s t 0) where
   -- refused by 1, 2, 4 or 20 to 26
   pub forward_begun : {r : Forwarded} → r ≡ forwarded_by g.number g.place g.detail 0 → (g.number ≡ 0 → ⊥) → Gives r s (forward_of s t p m)
   unfolding forward_of

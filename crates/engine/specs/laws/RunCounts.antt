@@ -1,5 +1,5 @@
 -- Laws of specs/RunCounts.antt. Assumes nothing.
-use Rattle.std.specs.Prelude.{◌≡◌, refl, ◌⊎◌, List, ℕ, suc, ◌+◌, ◌-◌, ◌≤◌}
+use Rattle.std.specs.Prelude.{◌≡◌, refl, ◌⊎◌, Some, None, Ok, Err, List, ℕ, suc, ◌+◌, ◌-◌, ◌≤◌}
 use Rattle.std.proofs.Common.{ap, ◌∙◌, inl, inr}
 use native.Mathlib.Omega.{arith}
 use Rattle.sets.specs.Set.{digit, size, count}
@@ -7,14 +7,12 @@ use Rattle.sets.specs.Sums.{sum}
 use Rattle.sets.proofs.laws.Counts.{count_ext, count_first}
 use Rattle.network.specs.declared.Network.{Network}
 use Rattle.network.specs.declared.Table.{Table}
-use Rattle.events.specs.declared.Read.{Read}
-use Rattle.events.specs.declared.Read.TheVariants.{Taken, End, Unknown, Unfit}
-use Rattle.events.specs.Event.{read_at}
 use Rattle.events.specs.declared.kind.Kind.{Kind}
 use Rattle.events.specs.declared.kind.Kind.TheVariants.{Skip, Produce, Forward, Subscribe, Unsubscribe, Leave, Join}
 use Rattle.events.specs.Kind.{kind_of, code_of, alike}
 use Rattle.floodnet.specs.Step.{refusal, receivers_of, turned_of}
 use Rattle.floodnet.specs.laws.StepLaws.{turned_kind}
+use Rattle.engine.specs.Standin.{Read, read_at}
 use Rattle.engine.specs.declared.Tally.{Tally}
 use Rattle.engine.specs.Run.{tallied_of, turn_of, Final, run_from}
 use Rattle.engine.specs.RunLaws.{outcome_at, tally_after}
@@ -28,10 +26,9 @@ kinds ev kind place count_of = count count_of (λ i. alike (kind_at ev (place + 
 -- the answer says the kind of the event, refused or not
 turn_kind : (b : Table) (n : Network) (r : Read) → (turn_of b n r).turned.kind ≡ kind_in r
 unfolding turn_of kind_in turned_of
-turn_kind b n (Taken e) = turned_kind (refusal n b e) (kind_of e) (receivers_of n b e)
-turn_kind b n End = refl
-turn_kind b n Unknown = refl
-turn_kind b n Unfit = refl
+turn_kind b n (Some (Ok e)) = turned_kind (refusal n b e) (kind_of e) (receivers_of n b e)
+turn_kind b n (Some (Err refusal)) = refl
+turn_kind b n None = refl
 
 -- the counts of a tally after an event of a kind
 pub tallied_produced : (t : Tally) (kind : Kind) (d : ℕ) → (tallied_of t kind d).produced ≡ t.produced + digit (alike kind Kind.Produce)

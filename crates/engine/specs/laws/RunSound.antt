@@ -1,7 +1,7 @@
 -- Over a run from a sound network: every network on the way is sound, and the pairs pending balance. Assumes nothing.
 --   "Soundness holds after every accepted event."
 --   "Pending pairs at the end = pending pairs at the start + produced + deliveries - forwards."
-use Rattle.std.specs.Prelude.{◌≡◌, refl, ◌⊎◌, List, ℕ, zero, suc, ◌+◌}
+use Rattle.std.specs.Prelude.{◌≡◌, refl, ◌⊎◌, Some, None, Ok, Err, List, ℕ, zero, suc, ◌+◌}
 use Rattle.std.proofs.Common.{inl, inr, arith}
 use Rattle.sets.specs.Set.{digit, size}
 use Rattle.sets.proofs.laws.Sizes.{size_none}
@@ -12,16 +12,14 @@ use Rattle.network.specs.Network.{Rows}
 use Rattle.network.specs.Sound.{Sound}
 use Rattle.events.specs.declared.Event.{Event}
 use Rattle.events.specs.declared.Event.TheVariants.{Skip, Produce, Forward, Subscribe, Unsubscribe, Leave, Join}
-use Rattle.events.specs.declared.Read.{Read}
-use Rattle.events.specs.declared.Read.TheVariants.{Taken, End, Unknown, Unfit}
-use Rattle.events.specs.Event.{read_at}
 use Rattle.events.specs.declared.kind.Kind.{Kind}
 use Rattle.events.specs.Kind.{kind_of, code_of, alike}
-use Rattle.events.specs.laws.RoundTrip.{read_fits}
 use Rattle.floodnet.specs.Step.{refusal, effect, if_accepted, after, receivers_of, turned, turned_of}
 use Rattle.floodnet.specs.laws.StepLaws.{after_sound, effect_pairs}
 use Rattle.floodnet.specs.View.{pairs}
 use Rattle.floodnet.specs.declared.Turned.{Turned}
+use Rattle.engine.specs.Standin.{Read, read_at}
+use Rattle.engine.specs.laws.Standin.{read_fits}
 use Rattle.engine.specs.declared.Tally.{Tally}
 use Rattle.engine.specs.Run.{turn_of, Final, run_from, ReadFits}
 use Rattle.engine.specs.RunLaws.{outcome_at, tally_after}
@@ -33,26 +31,24 @@ unfolding ReadFits
 reads_fit ev h place = first (read_at ev place) refl
   where
     first : (r : Read) → read_at ev place ≡ r → ReadFits r
-    first (Taken e) z = read_fits ev place e h z
-    first End z = tt
-    first Unknown z = tt
-    first Unfit z = tt
+    first (Some (Ok e)) z = read_fits ev place e h z
+    first (Some (Err refusal)) z = tt
+    first None z = tt
 
 -- ---- one event
 
 pub turn_sound : {b : Table} {n : Network} → Sound n → Rows b → (r : Read) → ReadFits r → Sound (turn_of b n r).network
 unfolding turn_of ReadFits
-turn_sound s rows (Taken e) f = after_sound s rows e f
-turn_sound s rows End f = s
-turn_sound s rows Unknown f = s
-turn_sound s rows Unfit f = s
+turn_sound s rows (Some (Ok e)) f = after_sound s rows e f
+turn_sound s rows (Some (Err refusal)) f = s
+turn_sound s rows None f = s
 
 -- pairs after an accepted event, by what the tally counts of it
 turn_pairs : {b : Table} {n : Network} → Sound n → Rows b → (r : Read) → ReadFits r → (turn_of b n r).turned.number ≡ 0
     → pairs (turn_of b n r).network + digit (alike (turn_of b n r).turned.kind Kind.Forward)
     ≡ pairs n + (digit (alike (turn_of b n r).turned.kind Kind.Produce) + size (turn_of b n r).turned.receivers)
 unfolding turn_of ReadFits turned_of turned after if_accepted code_of alike
-turn_pairs {b} {n} s rows (Taken e) f h = first (refusal n b e) refl h
+turn_pairs {b} {n} s rows (Some (Ok e)) f h = first (refusal n b e) refl h
   where
     answer : ℕ → Turned
     answer k = turned k (kind_of e) (receivers_of n b e)
@@ -61,9 +57,8 @@ turn_pairs {b} {n} s rows (Taken e) f h = first (refusal n b e) refl h
         → pairs (if_accepted k (effect n b e) n) + digit (alike (answer k).kind Kind.Forward) ≡ pairs n + (digit (alike (answer k).kind Kind.Produce) + size (answer k).receivers)
     first zero z i = effect_pairs s rows e f z
     first (suc k) z i = absurd (omega arith)
-turn_pairs s rows End f h = rw size_none
-turn_pairs s rows Unknown f h = rw size_none
-turn_pairs s rows Unfit f h = rw size_none
+turn_pairs s rows (Some (Err refusal)) f h = rw size_none
+turn_pairs s rows None f h = rw size_none
 
 -- an event that is no forward delivers nothing
 event_delivers : (n : Network) (b : Table) (e : Event) → (kind_of e ≡ Kind.Forward) ⊎ (size (receivers_of n b e) ≡ 0)
@@ -78,14 +73,13 @@ event_delivers n b (Join p j) = inr size_none
 
 pub turn_delivers : (b : Table) (n : Network) (r : Read) → ((turn_of b n r).turned.kind ≡ Kind.Forward) ⊎ (size (turn_of b n r).turned.receivers ≡ 0)
 unfolding turn_of turned_of turned
-turn_delivers b n (Taken e) = first (refusal n b e)
+turn_delivers b n (Some (Ok e)) = first (refusal n b e)
   where
     first : (k : ℕ) → ((turned k (kind_of e) (receivers_of n b e)).kind ≡ Kind.Forward) ⊎ (size (turned k (kind_of e) (receivers_of n b e)).receivers ≡ 0)
     first zero = event_delivers n b e
     first (suc k) = inr size_none
-turn_delivers b n End = inr size_none
-turn_delivers b n Unknown = inr size_none
-turn_delivers b n Unfit = inr size_none
+turn_delivers b n (Some (Err refusal)) = inr size_none
+turn_delivers b n None = inr size_none
 
 -- ---- a run
 

@@ -11,7 +11,7 @@ use Rattle.lists.specs.Tab.{tab}
 use Rattle.lists.specs.Visit.{visits}
 use Rattle.lists.specs.laws.Edit.{length_edit, get_or_edit}
 use Rattle.lists.specs.laws.Tab.{is_tab}
-use Rattle.lists.specs.laws.Visit.{visiting_more, visiting_done, visits_edit}
+use Rattle.lists.specs.laws.Visit.{visiting_none, visiting_more, visiting_done, visits_edit}
 use Rattle.network.proofs.store.heads.Invariants.{one}
 use Rattle.network.proofs.store.heads.Goals as goal
 

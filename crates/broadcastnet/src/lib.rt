@@ -13,6 +13,7 @@
 ghost use Rattle.std.specs.Prelude.{◌≡◌};
 ghost use Rattle.broadcastnet.specs.Commit.{together, without, image_net};
 
+use sets::Word;
 use network::Network;
 
 // The messages that are pending at any peer. (The drain has the same walk, over the words of its own specs/AtOnce.antt. To share it would take a
@@ -23,7 +24,7 @@ pub fn underway(pending: &[u64; 32]) -> u64
 {
     let mut w: u64 = 0;
     for had in pending {
-        w = sets::union64(w, *had);
+        w = w.union(*had);
     }
     w
 }
@@ -35,7 +36,7 @@ pub fn settled(seen: &[u64; 32], w: u64) -> [u64; 32]
 {
     let mut r = [0; 32];
     for (q, had) in seen.iter().enumerate() {
-        r[q] = sets::minus64(*had, w);
+        r[q] = (*had).minus(w);
     }
     r
 }

@@ -12,7 +12,8 @@ use Rattle.sets.proofs.laws.Bools.{clash, bool_ext, and_no, eqb_same, ne_eqb}
 use Rattle.sets.proofs.laws.Members.{membership, has_meet, has_minus, has_none, has_without, has_without_other, ext}
 use Rattle.sets.proofs.laws.Bounds.{minus_lt}
 use Rattle.sets.proofs.laws.Build.{sift_lt, has_sifted, has_puts}
-use Rattle.sets.proofs.laws.Lowest.{lowest_has, lowest_lt, least_narrow}
+use Rattle.sets.specs.Rising.{Takes}
+use Rattle.sets.proofs.laws.Lowest.{takes_has}
 use Rattle.lists.specs.Edit.{edit}
 use Rattle.lists.specs.laws.Edit.{edit_none, edit_then}
 use Rattle.network.specs.declared.Network.{Network}
@@ -23,10 +24,6 @@ use Rattle.drain.specs.AtOnce.{gives, OwnTopics, AllFiled, reach, spread, AtOnce
 -- those of s that do not hold it
 pub has_left : (s : ℕ) (holds : ℕ → Bool) → s < 2 ^ 32 → (q : ℕ) → has (minus s (sift 32 s holds)) q ≡ has s q && not (has s q && holds q)
 has_left s holds b q = has_minus s (sift 32 s holds) q ∙ ap (λ (x : Bool). has s q && not x) (has_sifted 32 s holds b q)
-
--- the least of some peers, of a word of 64 bits
-pub least_in : {w q : ℕ} → 0 < w → w < 2 ^ 32 → q ≡ lowest 64 w → q < 32
-least_in p b e = (least_narrow p b e).1
 
 -- p's messages of topic t: those of todo that the word of t has
 of_words : {ts words : List ℕ} {used t w : ℕ} (todo : ℕ) → OwnTopics ts words → AllFiled ts words used todo → t < 32 → w ≡ meet todo (get_or words t 0)
@@ -63,38 +60,38 @@ past_lt ts todo left = sift_lt 64 todo (λ (m : ℕ). not (has left (get_or ts m
 
 module _ {ts words : List ℕ} {p used todo : ℕ} {m : Network} (b : todo < 2 ^ 64) (filed : AllFiled ts words used todo) where
   -- before the first turn: every topic of todo is left
-  pub spreading_none : used < 2 ^ 32 → Spreading ts p todo used m m
+  pub spreading_none : {left : ℕ} → used < 2 ^ 32 → left ≡ used → Spreading ts p todo left m m
   unfolding spread
-  spreading_none bu = record {
+  spreading_none bu z = rw z (record {
     below = bu;
     made =
         ap (with_pending m)
         (edit_none (λ q x. union x (minus (reach m.known ts p (past ts todo used) q) (get_or m.seen q 0))) m.pending
         (λ i. ext _ _ (λ j. simp (membership, has_reach m.known ts p (past ts todo used) i (past_lt ts todo used), has_past ts todo b used j, none j) (or-false (has (get_or m.pending i 0) j)))));
     fit = λ j h k. clash (filed j h).topic k;
-  }
+  })
     where
       none : (j : ℕ) → has todo j && not (has used (get_or ts j 0)) ≡ false
       none j = and_no (has todo j) _ (λ h. ap not (filed j h).topic)
 
   -- t, the least topic that is left, has its turn
-  module _ {left left' t w : ℕ} {n : Network} (own : OwnTopics ts words) (v : Spreading ts p todo left m n) (some : 0 < left) (et : t ≡ lowest 32 left)
-      (el : left' ≡ minus left (only (lowest 32 left))) (ew : w ≡ meet todo (get_or words t 0)) where
+  module _ {left left' t w : ℕ} {n : Network} (own : OwnTopics ts words) (v : Spreading ts p todo left m n) (takes : Takes 32 left t left')
+      (ew : w ≡ meet todo (get_or words t 0)) where
     of_topic : (j : ℕ) → has w j ≡ has todo j && eqb (get_or ts j 0) t
-    of_topic = of_words todo own filed (rw et (lowest_lt 32 left some v.below)) ew
+    of_topic = of_words todo own filed takes.below ew
 
     still_below : left' < 2 ^ 32
-    still_below = rw el (minus_lt 32 left (only (lowest 32 left)) v.below)
+    still_below = rw takes.rest (minus_lt 32 left (only (lowest 32 left)) v.below)
 
     -- t was left and is no more; the other topics are left or not as they were
     there : has left t ≡ true
-    there = rw et (lowest_has 32 left some v.below)
+    there = takes_has v.below takes
 
     gone : has left' t ≡ false
-    gone = rw (el, et) (has_without left (lowest 32 left))
+    gone = rw (takes.rest, takes.least) (has_without left (lowest 32 left))
 
     other : (a : ℕ) → (a ≡ t → ⊥) → has left' a ≡ has left a
-    other a d = ap (λ (x : ℕ). has x a) el ∙ has_without_other left (lowest 32 left) a (λ (z : lowest 32 left ≡ a). d (sym z ∙ sym et))
+    other a d = ap (λ (x : ℕ). has x a) takes.rest ∙ has_without_other left (lowest 32 left) a (λ (z : lowest 32 left ≡ a). d (sym z ∙ sym takes.least))
 
     -- with messages
     pub spreading_more : {e' : List ℕ} → get_or n.known (p * 32 + t) 0 < 2 ^ 32 → e' ≡ edit (gives w n.seen (get_or n.known (p * 32 + t) 0)) n.pending

@@ -19,7 +19,8 @@ use Rattle.sets.proofs.laws.Bools.{bool_ext, and_both, and_yes, or_left, or_righ
 use Rattle.sets.proofs.laws.Members.{has_union, has_none, has_only, has_with}
 use Rattle.sets.proofs.laws.Bounds.{has_in, union_lt, minus_lt, only_lt}
 use Rattle.sets.proofs.laws.Build.{has_set_of, is_set_of, set_of_lt, has_sifted}
-use Rattle.sets.proofs.laws.Lowest.{lowest_has, lowest_lt}
+use Rattle.sets.specs.Rising.{Takes}
+use Rattle.sets.proofs.laws.Lowest.{takes_has}
 use Rattle.sets.proofs.laws.Visits.{minus_self, minus_none, subset_self, subset_step, visit_step, set_of_none, Visit, visit_none, visit_yes, visit_no, visit_done}
 use Rattle.drain.specs.AtOnce.{TopicsFit, anywhere_of, topics_of, ByTopic, OwnTopics, AllFiled, EachFiled}
 
@@ -91,26 +92,26 @@ pub record Using (ts : List ℕ) (s left r : ℕ) : Type 0 where
   pub made : r ≡ topics_of ts (minus s left)
 
 -- before the first turn
-pub using_none : (ts : List ℕ) (s : ℕ) → s < 2 ^ 64 → Using ts s s 0
+pub using_none : {ts : List ℕ} {s left : ℕ} → s < 2 ^ 64 → left ≡ s → Using ts s left 0
 unfolding topics_of
-using_none ts s b = record {
-  below = b;
-  within = subset_self s;
-  made = sym (set_of_none 32 _ (λ t. any_none 64 (λ (m : ℕ). has (minus s s) m && eqb (get_or ts m 0) t) (λ m l. rw (minus_self s, has_none m))));
+using_none {ts} {s} b e = record {
+  below = rw e b;
+  within = rw e (subset_self s);
+  made = rw e (sym (set_of_none 32 _ (λ t. any_none 64 (λ (m : ℕ). has (minus s s) m && eqb (get_or ts m 0) t) (λ m l. rw (minus_self s, has_none m)))));
 }
 
 -- a turn: the topic of m
-pub using_more : {ts : List ℕ} {s left left' r r' m : ℕ} → Using ts s left r → 0 < left → m ≡ lowest 64 left → left' ≡ minus left (only (lowest 64 left))
+pub using_more : {ts : List ℕ} {s left left' r r' m : ℕ} → Using ts s left r → Takes 64 left m left'
     → get_or ts m 0 < 32 → r' ≡ union r (only (get_or ts m 0)) → Using ts s left' r'
-using_more {ts} {s} {left} {left'} {r} {r'} {m} v p em el l er = record {
-  below = rw el (minus_lt 64 left (only (lowest 64 left)) v.below);
-  within = rw el (subset_step left s (only (lowest 64 left)) v.within);
-  made = er ∙ ap (λ (x : ℕ). union x (only (get_or ts m 0))) v.made ∙ topics_with ts (minus s left) m (rw em (lowest_lt 64 left p v.below)) l
-      ∙ ap (topics_of ts) (sym (visit_step left s m v.within (rw em (lowest_has 64 left p v.below))) ∙ ap (minus s) (sym gone));
+using_more {ts} {s} {left} {left'} {r} {r'} {m} v t l er = record {
+  below = rw t.rest (minus_lt 64 left (only (lowest 64 left)) v.below);
+  within = rw t.rest (subset_step left s (only (lowest 64 left)) v.within);
+  made = er ∙ ap (λ (x : ℕ). union x (only (get_or ts m 0))) v.made ∙ topics_with ts (minus s left) m t.below l
+      ∙ ap (topics_of ts) (sym (visit_step left s m v.within (takes_has v.below t)) ∙ ap (minus s) (sym gone));
 }
   where
     gone : left' ≡ minus left (only m)
-    gone = el ∙ ap (λ (x : ℕ). minus left (only x)) (sym em)
+    gone = t.rest ∙ ap (λ (x : ℕ). minus left (only x)) (sym t.least)
 
 -- after the last turn
 pub using_done : {ts : List ℕ} {s left r : ℕ} → Using ts s left r → left ≡ 0 → r ≡ topics_of ts s
@@ -124,16 +125,16 @@ pub record Sorting (ts : List ℕ) (s left : ℕ) (r : List ℕ) : Type 0 where
   pub each : (t : ℕ) → t < 32 → Visit 64 s left (get_or r t 0) (λ (m : ℕ). eqb (get_or ts m 0) t)
 
 -- before the first turn
-pub sorting_none : (ts : List ℕ) (s : ℕ) → s < 2 ^ 64 → Sorting ts s s (replicate 32 0)
-sorting_none ts s b = record {
+pub sorting_none : {ts : List ℕ} {s left : ℕ} → s < 2 ^ 64 → left ≡ s → Sorting ts s left (replicate 32 0)
+sorting_none b e = record {
   long = length-replicate {A = ℕ} 32 0;
-  each = λ t l. rw (get_or-replicate {A = ℕ} 32 t 0 0 l) (visit_none 64 s (λ (m : ℕ). eqb (get_or ts m 0) t) b);
+  each = λ t l. rw (get_or-replicate {A = ℕ} 32 t 0 0 l) (visit_none b e);
 }
 
 -- a turn: m goes into the word of its topic
-pub sorting_more : {ts r : List ℕ} {s left left' m x : ℕ} → Sorting ts s left r → 0 < left → m ≡ lowest 64 left → left' ≡ minus left (only (lowest 64 left))
+pub sorting_more : {ts r : List ℕ} {s left left' m x : ℕ} → Sorting ts s left r → Takes 64 left m left'
     → get_or ts m 0 < 32 → x ≡ union (get_or r (get_or ts m 0) 0) (only m) → Sorting ts s left' (set r (get_or ts m 0) x)
-sorting_more {ts} {r} {s} {left} {left'} {m} {x} v p em el b ex = record {
+sorting_more {ts} {r} {s} {left} {left'} {m} {x} v takes b ex = record {
   long = length-set r k x ∙ v.long;
   each = λ t l. go t l (ℕ_discrete k t);
 }
@@ -144,8 +145,8 @@ sorting_more {ts} {r} {s} {left} {left'} {m} {x} v p em el b ex = record {
     go : (t : ℕ) → t < 32 → Dec (k ≡ t) → Visit 64 s left' (get_or (set r k x) t 0) (λ (i : ℕ). eqb (get_or ts i 0) t)
     go t l (yes z) =
         let here : get_or (set r k x) k 0 ≡ x = get_or-set_same r k x 0 (omega (arith, v.long)) in
-        visit_yes (v.each t l) p em el (eq-eqb k t z) (ap (λ (i : ℕ). get_or (set r k x) i 0) (sym z) ∙ here ∙ ex ∙ ap (λ (i : ℕ). union (get_or r i 0) (only m)) z)
-    go t l (no z) = rw (get_or-set_other r k t x 0 (λ (y : t ≡ k). z (sym y))) (visit_no (v.each t l) p em el (ne_eqb z))
+        visit_yes (v.each t l) takes (eq-eqb k t z) (ap (λ (i : ℕ). get_or (set r k x) i 0) (sym z) ∙ here ∙ ex ∙ ap (λ (i : ℕ). union (get_or r i 0) (only m)) z)
+    go t l (no z) = rw (get_or-set_other r k t x 0 (λ (y : t ≡ k). z (sym y))) (visit_no (v.each t l) takes (ne_eqb z))
 
 -- after the last turn
 pub sorting_done : {ts r : List ℕ} {s left : ℕ} → Sorting ts s left r → left ≡ 0 → ByTopic ts s r

@@ -9,7 +9,6 @@
 #![tactic(auto)]
 
 mod sorted; // sorted.rt: the messages of a drain by topic, and its rounds
-mod standin;
 
 ghost use Rattle.std.specs.Prelude.{◌≡◌, ◌^◌, ◌<◌, ◌≤◌, eqb};
 ghost use Rattle.sets.specs.Set.{has, count};
@@ -18,6 +17,7 @@ ghost use Rattle.drain.specs.Pairs.{waiting_of, empty_words};
 ghost use Rattle.drain.specs.AtOnce.{TopicsFit, anywhere_of};
 ghost use Rattle.drain.specs.Lent.{DrainsTo};
 
+use sets::Word;
 use network::{Network, Table};
 use sorted::Sorted;
 
@@ -38,7 +38,7 @@ fn how_many(w: u64) -> u32
     if w == 0 {
         return 0;
     }
-    sets::size64(w)
+    w.size()
 }
 
 // How many pairs are pending.
@@ -61,7 +61,7 @@ fn anywhere(pending: &[u64; 32]) -> u64
 {
     let mut all: u64 = 0;
     for w in pending {
-        all = sets::union64(all, *w);
+        all = all.union(*w);
     }
     all
 }

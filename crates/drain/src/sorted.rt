@@ -6,7 +6,9 @@ ghost use Rattle.floodnet.specs.View.{fwd};
 ghost use Rattle.drain.specs.Pairs.{pairs_of, list_of};
 ghost use Rattle.drain.specs.AtOnce.{TopicsFit, topics_of, ByTopic, OwnTopics, AllFiled, EachFiled, gives};
 
-use super::{how_many, standin};
+use sets::Word;
+use super::how_many;
+use floodnet::messages;
 use network::{Message, Network, Peer, Table};
 
 // The topics of the messages of s.
@@ -15,11 +17,8 @@ fn topics_of(table: &Table, s: u64) -> u32
     ensures { result ≡ topics_of table.now.topics s }
 {
     let mut r: u32 = 0;
-    let mut left = s;
-    while left != 0 {
-        let m = sets::lowest64(left) as usize;
-        r = sets::with32(r, table.topics[m] as u32);
-        left = sets::rest64(left);
+    for m in s.members() {
+        r = r.with(table.topics[m as usize] as u32);
     }
     r
 }
@@ -30,27 +29,21 @@ fn by_topic(table: &Table, s: u64) -> [u64; 32]
     ensures { ByTopic table.now.topics s result }
 {
     let mut r = [0u64; 32];
-    let mut left = s;
-    while left != 0 {
-        let m = sets::lowest64(left);
+    for m in s.members() {
         let t = table.topics[m as usize] as usize;
-        r[t] = sets::with64(r[t], m);
-        left = sets::rest64(left);
+        r[t] = r[t].with(m);
     }
     r
 }
 
 // The messages of w become pending at each peer of s that has not seen them. (A word of 64 bits for those left: floodnet's src/arrays.rt.)
-#[tactic(auto, using(crate::proofs::AtOnce::least_in))]
 fn give_set(pending: &mut [u64; 32], seen: &[u64; 32], s: u32, w: u64)
     ensures pending_after { pending.new ≡ edit (gives w seen.now s) pending.old }
     ensures s_bound { s < 2 ^ 32 }
 {
-    let mut left = s as u64;
-    while left != 0 {
-        let q = sets::lowest64(left) as usize;
-        pending[q] = sets::union64(pending[q], sets::minus64(w, seen[q]));
-        left = sets::rest64(left);
+    for q in (s as u64).members() {
+        let i = q as usize;
+        pending[i] = pending[i].union(w.minus(seen[i]));
     }
 }
 
@@ -86,22 +79,18 @@ impl<'a> Sorted<'a> {
         ensures { n.new ≡ run (fwd self.now.table.now) n.old (pairs_of p.0 todo 64) }
     {
         let i = p.0 as usize;
-        n.pending[i] = sets::minus64(n.pending[i], todo);
-        n.seen[i] = sets::union64(n.seen[i], todo);
-        let mut left = self.used;
-        while left != 0 {
-            let t = sets::lowest32(left) as usize;
-            let w = sets::meet64(todo, self.words[t]);
+        n.pending[i] = n.pending[i].minus(todo);
+        n.seen[i] = n.seen[i].union(todo);
+        for t in self.used.members() {
+            let w = todo.meet(self.words[t as usize]);
             if w != 0 {
-                give_set(&mut n.pending, &n.seen, n.known[i * 32 + t], w);
+                give_set(&mut n.pending, &n.seen, n.known[i * 32 + t as usize], w);
             }
-            left = sets::rest32(left);
         }
     }
 
     // Forwards the messages of `todo` at p, the least first, while `left` of the budget lasts; answers how many. All at
     // once where the budget has them all.
-    #[tactic(auto, using(crate::specs::laws::Pairs::walk_some))]
     fn drain_peer(&self, n: &mut Network, p: Peer, todo: u64, left: u32) -> u32
         requires p_bound { p.0 < 32 }
         requires filed { AllFiled self.now.table.now.topics self.now.words self.now.used todo }
@@ -116,11 +105,8 @@ impl<'a> Sorted<'a> {
             self.forward_set(n, p, todo);
             return all;
         }
-        let mut rest = todo;
-        for _made in 0..left {
-            let m = Message(sets::lowest64(rest) as u8);
-            standin::forward(n, self.table, p, m);
-            rest = sets::rest64(rest);
+        for m in todo.members().take(left as usize) {
+            messages::forward(n, self.table, p, Message(m as u8));
         }
         left
     }

@@ -4,6 +4,7 @@ ghost use Rattle.network.specs.Refused.{checked_as};
 ghost use Rattle.engine.specs.Alone.{check_of, copy_of, copied_of, forward_of};
 ghost use Rattle.engine.specs.Alone.{forwarded_as, Gives};
 
+use sets::Word;
 use crate::{Forwarded, standin, start};
 use network::{Checked, Message, Peer, Refusal, Refused};
 
@@ -46,7 +47,7 @@ impl From<Result<u32, Refused>> for Forwarded {
                 number: 0,
                 detail: 0,
                 place: 0,
-                deliveries: sets::size32(receivers),
+                deliveries: receivers.size(),
                 receivers,
             },
             Err(refused) => Forwarded {

@@ -3,6 +3,7 @@ ghost use Rattle.std.specs.Prelude.{◌≡◌};
 ghost use Rattle.sets.specs.Set.{size};
 ghost use Rattle.engine.specs.Run.{tallied_of, Room};
 
+use sets::Word;
 use crate::Tally;
 use events::kind::Kind;
 
@@ -32,6 +33,6 @@ impl Tally {
         requires { Room self.old (size receivers) }
         ensures { self.new ≡ tallied_of self.old kind (size receivers) }
     {
-        *self = tallied(*self, kind, sets::size32(receivers));
+        *self = tallied(*self, kind, receivers.size());
     }
 }

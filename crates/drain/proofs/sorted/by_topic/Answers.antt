@@ -3,12 +3,12 @@ use borrow.Author.Rules.{rules}
 use Rattle.drain.proofs.Filing.{sorting_none, sorting_more, sorting_done}
 use Rattle.drain.proofs.sorted.by_topic.Goals as goal
 
-pub loop-left-init : goal.loop-left-init
-loop-left-init c = sorting_none _ _ (search rules)
+pub loop-m-init : goal.loop-m-init
+loop-m-init c = sorting_none (search rules) (search rules)
 
-pub loop-left-preserved : goal.loop-left-preserved
-loop-left-preserved c =
-    sorting_more c.loop-left.invariant (search rules) c.lowest64-m.ensures.0 c.rest64-left.ensures.0 (c.requires _) c.with64.ensures
+pub loop-m-preserved : goal.loop-m-preserved
+loop-m-preserved c =
+    sorting_more c.loop-m.invariant c.in-Some.ensures.steps (c.requires _) c.with.ensures
 
 pub returns : goal.returns
-returns c = sorting_done c.loop-left.invariant c.loop-left-test.false
+returns c = sorting_done c.loop-m.invariant c.in-None.ensures.steps.0

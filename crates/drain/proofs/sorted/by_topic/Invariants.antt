@@ -2,8 +2,5 @@
 use Rattle.drain.proofs.Filing.{Sorting}
 use Rattle.drain.proofs.sorted.by_topic.Given as goal
 
-abbrev pub invariant-loop-left : goal.invariant-loop-left
-invariant-loop-left l = Sorting l.table.topics l.s l.left l.r
-
-abbrev pub decreases-loop-left : goal.decreases-loop-left
-decreases-loop-left l = l.left
+abbrev pub invariant-loop-m : goal.invariant-loop-m
+invariant-loop-m l = Sorting l.table.topics l.s l.m-iterator.left l.r

@@ -2,20 +2,29 @@
 use borrow.Author.Rules.{rules}
 use mathlib.Core.Path.{ap, ◌∙◌}
 use Rattle.sets.specs.Set.{union, puts}
-use Rattle.sets.proofs.laws.Sizes.{size_less}
-use Rattle.lists.specs.laws.Visit.{visiting_wide, visiting_done, visits_edit}
+use Rattle.sets.proofs.laws.Lowest.{takes_narrow}
+use Rattle.lists.specs.laws.Visit.{visiting_none, visiting_more, visiting_done, visits_edit}
 use Rattle.drain.specs.AtOnce.{gives}
 use Rattle.drain.proofs.sorted.give_set.Goals as goal
 
-pub loop-left-smaller : goal.loop-left-smaller
-loop-left-smaller c = size_less 64 (search rules) (search rules) c.rest64-left.ensures.0
+pub loop-q-init : goal.loop-q-init
+loop-q-init c = visiting_none (search rules) (search rules)
 
-pub loop-left-preserved : goal.loop-left-preserved
+pub bounds-pending-i : goal.bounds-pending-i
+bounds-pending-i c = (takes_narrow c.loop-q.invariant.below c.in-Some.ensures.steps).below
+
+pub bounds-seen-i : goal.bounds-seen-i
+bounds-seen-i c = (takes_narrow c.loop-q.invariant.below c.in-Some.ensures.steps).below
+
+pub bounds-pending-i-in-loop-q : goal.bounds-pending-i-in-loop-q
+bounds-pending-i-in-loop-q c = (takes_narrow c.loop-q.invariant.below c.in-Some.ensures.steps).below
+
+pub loop-q-preserved : goal.loop-q-preserved
 unfolding puts
-loop-left-preserved c =
-    visiting_wide c.loop-left.invariant (search rules) c.lowest64-q.ensures.0 c.rest64-left.ensures.0
-    (c.union64.ensures ∙ ap (union _) c.minus64.ensures)
+loop-q-preserved c =
+    visiting_more c.loop-q.invariant (takes_narrow c.loop-q.invariant.below c.in-Some.ensures.steps)
+    (c.union.ensures ∙ ap (union _) c.minus.ensures)
 
 pub returns-clause-pending_after : goal.returns-clause-pending_after
 unfolding gives
-returns-clause-pending_after c = visiting_done c.loop-left.invariant c.loop-left-test.false ∙ visits_edit _ 32 _ _ (search rules)
+returns-clause-pending_after c = visiting_done c.loop-q.invariant c.in-None.ensures.steps.0 ∙ visits_edit _ 32 _ _ (search rules)

@@ -3,12 +3,12 @@ use borrow.Author.Rules.{rules}
 use Rattle.drain.proofs.Filing.{using_none, using_more, using_done}
 use Rattle.drain.proofs.sorted.topics_of.Goals as goal
 
-pub loop-left-init : goal.loop-left-init
-loop-left-init c = using_none _ _ (search rules)
+pub loop-m-init : goal.loop-m-init
+loop-m-init c = using_none (search rules) (search rules)
 
-pub loop-left-preserved : goal.loop-left-preserved
-loop-left-preserved c =
-    using_more c.loop-left.invariant (search rules) c.lowest64-m.ensures.0 c.rest64-left.ensures.0 (c.requires _) c.with32-r.ensures
+pub loop-m-preserved : goal.loop-m-preserved
+loop-m-preserved c =
+    using_more c.loop-m.invariant c.in-Some.ensures.steps (c.requires _) c.with-r.ensures
 
 pub returns : goal.returns
-returns c = using_done c.loop-left.invariant c.loop-left-test.false
+returns c = using_done c.loop-m.invariant c.in-None.ensures.steps.0

@@ -2,8 +2,5 @@
 use Rattle.drain.proofs.Filing.{Using}
 use Rattle.drain.proofs.sorted.topics_of.Given as goal
 
-abbrev pub invariant-loop-left : goal.invariant-loop-left
-invariant-loop-left l = Using l.table.topics l.s l.left l.r
-
-abbrev pub decreases-loop-left : goal.decreases-loop-left
-decreases-loop-left l = l.left
+abbrev pub invariant-loop-m : goal.invariant-loop-m
+invariant-loop-m l = Using l.table.topics l.s l.m-iterator.left l.r

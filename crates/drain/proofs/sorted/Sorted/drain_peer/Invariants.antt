@@ -3,5 +3,5 @@ use Rattle.floodnet.specs.View.{fwd}
 use Rattle.drain.specs.laws.Pairs.{Walk}
 use Rattle.drain.proofs.sorted.Sorted.drain_peer.Given as goal
 
-abbrev pub invariant-loop-made : goal.invariant-loop-made
-invariant-loop-made l = Walk (fwd l.self.table.now) l.initial.n l.p.0 l.todo l.left l.n l.rest l._made
+abbrev pub invariant-loop-m : goal.invariant-loop-m
+invariant-loop-m l = Walk (fwd l.self.table.now) l.initial.n l.p.0 l.todo l.left l.n l.m-iterator.iter.left l.m-iterator.n

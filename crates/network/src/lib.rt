@@ -14,9 +14,9 @@ mod rules;
 mod store;
 mod verdict;
 
-ghost use Rattle.std.specs.Prelude.{◌≡◌, ◌+◌, ◌*◌, ◌<◌, length};
-ghost use Rattle.network.specs.Network.{topic_of};
-ghost use Rattle.network.specs.Refused.{checked_as};
+ghost use Rattle.std.specs.Prelude.{◌≡◌, ◌+◌, ◌*◌, ◌<◌, length, ltb};
+ghost use Rattle.network.specs.Network.{peer, message, topic_of};
+ghost use Rattle.network.specs.Refused.{checked_as, at_zero, OrUnfit};
 ghost use Rattle.network.specs.Storing.{put_messages};
 ghost use Rattle.network.specs.State.{blank_net, read_as, open_of, Opens, bytes_of, write_of, written_of};
 ghost use Rattle.network.specs.Rows.{blank_table, listed_as, list_of};
@@ -34,6 +34,35 @@ pub struct Topic(pub u8);
 
 #[derive(Clone, Copy, Debug, PartialEq, Eq)]
 pub struct Message(pub u8);
+
+// "Peers 0 to 31 [..] messages 0 to 63": a byte that is none of them is refused by 7.
+impl TryFrom<u8> for Peer {
+    type Error = Refusal;
+
+    ghost try_from_gives = { λ i answer. OrUnfit (ltb i 32) (peer i) answer };
+
+    fn try_from(i: u8) -> Result<Peer, Refusal> {
+        if i < 32 {
+            Ok(Peer(i))
+        } else {
+            Err(Refusal::Unfit)
+        }
+    }
+}
+
+impl TryFrom<u8> for Message {
+    type Error = Refusal;
+
+    ghost try_from_gives = { λ i answer. OrUnfit (ltb i 64) (message i) answer };
+
+    fn try_from(i: u8) -> Result<Message, Refusal> {
+        if i < 64 {
+            Ok(Message(i))
+        } else {
+            Err(Refusal::Unfit)
+        }
+    }
+}
 
 // The working state: for each peer its sets as words; `known` has the word of topic t of peer p at p * 32 + t.
 #[derive(Clone, Copy)]
@@ -61,6 +90,19 @@ pub struct Refused {
     pub refusal: Refusal,
     pub place: usize,
     pub detail: u8,
+}
+
+// A refusal of no record, row or event in particular: place 0, without a detail.
+impl From<Refusal> for Refused {
+    ghost from_gives = { λ refusal refused. refused ≡ at_zero refusal };
+
+    fn from(refusal: Refusal) -> Refused {
+        Refused {
+            refusal,
+            place: 0,
+            detail: 0,
+        }
+    }
 }
 
 // What an entry point answers that only reads or writes: zeros, or the number of a refusal, its detail (the lowest peer or topic at fault where
@@ -115,11 +157,7 @@ impl Network {
         ensures { Opens state.now self.old result self.new }
     {
         let Some(state) = state.as_array::<5120>() else {
-            return Err(Refused {
-                refusal: Refusal::StateLength,
-                place: 0,
-                detail: 0,
-            });
+            return Err(Refused::from(Refusal::StateLength));
         };
         let heads = load::words(state, 0);
         self.present = rules::ones(&heads);
@@ -177,11 +215,7 @@ impl Network {
         ensures bytes { state.new ≡ written_of self.now state.old }
     {
         if state.len() != 5120 {
-            return Err(Refused {
-                refusal: Refusal::StateLength,
-                place: 0,
-                detail: 0,
-            });
+            return Err(Refused::from(Refusal::StateLength));
         }
         let heads = store::heads(self.present);
         verdict::verdict(self, &heads)?;
@@ -205,15 +239,12 @@ impl Table {
     // Reads the table that the rows say. Refused by 2, then by 4 with the lowest bad row; a refused read leaves a table of zeros.
     #[tactic(auto, using(crate::specs::laws::Listing::list_2, crate::specs::laws::Listing::list_4, crate::specs::laws::Listing::list_0, crate::proofs::RowWords::bad_is, crate::proofs::RowWords::table_is))]
     pub fn read(&mut self, rows: &[u8]) -> Result<(), Refused>
-        ensures { listed_as result self.new ≡ list_of rows.now }
+        ensures table { listed_as result self.new ≡ list_of rows.now }
+        ensures detail { (checked_as result).detail ≡ 0 }
     {
         *self = Table::blank();
         let Some(rows) = rows.as_array::<256>() else {
-            return Err(Refused {
-                refusal: Refusal::TableLength,
-                place: 0,
-                detail: 0,
-            });
+            return Err(Refused::from(Refusal::TableLength));
         };
         let words = rows::words(rows);
         if let Some(place) = rows::bad(&words) {

@@ -5,7 +5,7 @@ use Rattle.network.specs.laws.Opening.{net_is, verdict_at_lem, opens_1, opens_ve
 use Rattle.network.proofs.Network.open.Goals as goal
 
 pub returns-in_default : goal.returns-in_default
-returns-in_default c = opens_1 _ _ refl c.in_default.ensures.cases
+returns-in_default c = rw c.from.ensures (opens_1 _ _ refl c.in_default.ensures.cases)
 
 pub returns : goal.returns
 returns c =

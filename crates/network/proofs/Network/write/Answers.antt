@@ -7,7 +7,7 @@ use Rattle.network.specs.laws.Writing.{write_1, write_refused, write_0}
 use Rattle.network.proofs.Network.write.Goals as goal
 
 pub returns-then-state-ne5120 : goal.returns-then-state-ne5120
-returns-then-state-ne5120 c = let w = write_1 _ _ c.if-state-ne5120.true in record { answer = w.0; bytes = w.1 }
+returns-then-state-ne5120 c = let w = write_1 _ _ c.if-state-ne5120.true in rw c.from.ensures (record { answer = w.0; bytes = w.1 })
 
 pub returns-in_err-verdict : goal.returns-in_err-verdict
 returns-in_err-verdict c =

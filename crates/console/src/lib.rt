@@ -37,14 +37,7 @@ fn run(state: &[u8], table: &[u8], events: &[u8], out: &mut [u8]) -> usize
     };
     let answer = engine::running::run_events(&mut n, &begun.table, events, &mut tally);
     let show = report::shown(answer.number);
-    report::report(
-        answer.number,
-        answer.place,
-        answer.accepted,
-        n,
-        show,
-        out,
-    )
+    report::report(answer.number, answer.place, answer.accepted, n, show, out)
 }
 
 // What the program prints for its input; answers its length.

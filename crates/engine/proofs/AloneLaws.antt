@@ -4,7 +4,7 @@ use mathlib.Core.List.{List}
 use Prim.Native.Nat.{ℕ}
 use lib.ListN.{length}
 use Rattle.sets.proofs.laws.Bools.{ne_eqb}
-use Rattle.network.specs.declared.Opened.{Opened}
+use Rattle.network.specs.State.{Opened}
 use Rattle.network.specs.Rules.{checked}
 use Rattle.network.specs.State.{open_of, bytes_of}
 use Rattle.engine.specs.Alone.{check_of, copy_of, copied_of}

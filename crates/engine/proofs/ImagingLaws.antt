@@ -5,7 +5,7 @@ use Prim.Native.Nat.{ℕ}
 use lib.ListN.{length}
 use Rattle.sets.proofs.laws.Bools.{ne_eqb}
 use Rattle.network.specs.declared.Network.{Network}
-use Rattle.network.specs.declared.Opened.{Opened}
+use Rattle.network.specs.State.{Opened}
 use Rattle.network.specs.Rules.{checked}
 use Rattle.network.specs.State.{open_of, bytes_of}
 use Rattle.broadcastnet.specs.Commit.{image_net}

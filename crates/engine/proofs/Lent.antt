@@ -12,17 +12,16 @@ use Rattle.network.specs.declared.Refused.{Refused}
 use Rattle.network.specs.Refusal.{number_of}
 use Rattle.network.specs.Refused.{checked_as}
 use Rattle.network.specs.Network.{with_pending, with_seen}
-use Rattle.network.specs.State.{blank_net, opened, opened_by, open_of, bytes_of}
+use Rattle.network.specs.State.{blank_net, opened, opened_by, open_of, bytes_of, Opens}
 use Rattle.network.specs.Storing.{put_messages}
 use Rattle.network.specs.Rows.{listed, list_of}
 use Rattle.network.specs.laws.Messages.{put_messages_lem}
 use Rattle.floodnet.specs.Step.{refusal, effect, if_accepted, after}
 use Rattle.floodnet.specs.Forward.{moved, given, forwarded}
-use Rattle.engine.specs.Standin.{Opens}
-use Rattle.engine.specs.laws.Standin.{refusal_not_0}
 use Rattle.engine.specs.Start.{refused_at, begun_as, begin_of}
 use Rattle.engine.specs.laws.StartLaws.{begin_4, begin_unsound, begin_0}
 use Rattle.engine.specs.laws.ForwardAlone.{forward_event}
+use Rattle.network.specs.laws.Refusal.{refusal_not_0}
 
 -- what was opened, by the numbers of the answer
 pub opened_is : {A : Type 0} {s : List ℕ} {old n : Network} {r : Result A Refused} → Opens s old r n

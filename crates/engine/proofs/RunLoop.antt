@@ -9,7 +9,7 @@ use Rattle.network.specs.declared.Table.{Table}
 use Rattle.events.specs.declared.kind.Kind.{Kind}
 use Rattle.events.specs.declared.kind.Kind.TheVariants.{Skip, Produce, Forward, Subscribe, Unsubscribe, Leave, Join}
 use Rattle.engine.specs.declared.Tally.{Tally}
-use Rattle.engine.specs.Run.{zero_tally, Room, tallied_of, Final, stops_at, all_done, run_from}
+use Rattle.engine.specs.Run.{Room, tallied_of, Final, stops_at, all_done, run_from}
 use Rattle.engine.specs.RunLaws.{outcome_at, tally_after}
 use Rattle.engine.specs.laws.RunLaws.{run_on, run_stops}
 
@@ -33,12 +33,6 @@ grows t Leave d h = (omega arith, omega arith, omega arith)
 grows t Join d h = (omega arith, omega arith, omega arith)
 
 module _ (ev : List ℕ) (b : Table) (count : ℕ) where
-  pub going_start : (n : Network) → Going ev b count 0 n zero_tally (run_from count ev 0 b n zero_tally)
-  going_start n = record { same = ap (λ (k : ℕ). run_from k ev 0 b n zero_tally) (all count); within = omega arith; produced = omega arith; forwards = omega arith; deliveries = omega arith }
-    where
-      all : (k : ℕ) → k - 0 ≡ k
-      all k = omega arith
-
   -- an accepted event
   pub going_on : {place : ℕ} {n : Network} {t : Tally} {f : Final} → Going ev b count place n t f → place < count → (n' : Network) (t' : Tally)
       → (outcome_at ev place b n).turned.number ≡ 0 → size (outcome_at ev place b n).turned.receivers ≤ 32 → n' ≡ (outcome_at ev place b n).network → t' ≡ tally_after (outcome_at ev place b n) t

@@ -1,29 +1,23 @@
 -- Laws of one event that was read, for the function that does it: by what was read, and by how it ended. Assumes nothing.
-use mathlib.Core.Path.{◌≡◌, refl, sym, ap, subst, ◌∙◌}
+use mathlib.Core.Path.{◌≡◌, refl, sym, ap, ◌∙◌}
 use Prim.Native.Nat.{ℕ, zero, suc}
 use Rattle.std.specs.Prelude.{Some, None, Ok, Err}
 use Rattle.network.specs.declared.refusal.Refusal.{Refusal}
 use Rattle.network.specs.Refusal.{number_of, number}
 use Rattle.network.specs.declared.Network.{Network}
 use Rattle.network.specs.declared.Table.{Table}
-use Rattle.events.specs.declared.Event.{Event}
 use Rattle.events.specs.Kind.{kind_of}
-use Rattle.floodnet.specs.Step.{refusal, effect, if_accepted, after, receivers_of, turned, turned_of}
-use Rattle.events.specs.Fits.{EventFits}
-use Rattle.engine.specs.declared.standin.Turned.{Turned}
-use Rattle.engine.specs.Standin.{Read, receivers_in, turn_of as answer_of}
-use Rattle.engine.specs.laws.Standin.{refusal_not_0}
-use Rattle.engine.specs.Run.{turn_of, ReadFits}
-
-pub taken_fits : {read : Read} {e : Event} → read ≡ Some (Ok e) → ReadFits read → EventFits e
-unfolding ReadFits
-taken_fits k f = subst ReadFits k f
+use Rattle.floodnet.specs.Step.{refusal, effect, if_accepted, after, receivers_of, turned, turned_of, received, numbered}
+use Rattle.floodnet.specs.declared.Turned.{Turned}
+use Rattle.engine.specs.Run.{turn_of}
+use Rattle.events.specs.Event.{Read}
+use Rattle.network.specs.laws.Refusal.{refusal_not_0}
 
 -- an accepted event; a refused one
-pub turned_ok : (t : Turned) {to : ℕ} → t.outcome ≡ Ok to → ((answer_of t).number ≡ 0) × ((answer_of t).receivers ≡ to)
-turned_ok t e = (ap number e, ap receivers_in e)
+pub turned_ok : (t : Turned) {to : ℕ} → t.outcome ≡ Ok to → ((numbered t).number ≡ 0) × ((numbered t).receivers ≡ to)
+turned_ok t e = (ap number e, ap received e)
 
-pub turned_err : (t : Turned) {k : Refusal} → t.outcome ≡ Err k → ((answer_of t).number ≡ number_of k) × ((answer_of t).number ≡ 0 → ⊥)
+pub turned_err : (t : Turned) {k : Refusal} → t.outcome ≡ Err k → ((numbered t).number ≡ number_of k) × ((numbered t).number ≡ 0 → ⊥)
 turned_err t {k} e = (ap number e, λ z. refusal_not_0 k (sym (ap number e) ∙ z))
 
 -- a refused event leaves the network as it was

@@ -1,4 +1,3 @@
-pub mod Standin
 pub mod Start
 pub mod Run
 pub mod RunLaws

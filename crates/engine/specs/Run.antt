@@ -11,14 +11,13 @@ use Rattle.network.specs.State.{bytes_of}
 use Rattle.network.specs.Refusal.{number_of}
 use Rattle.events.specs.declared.kind.Kind.{Kind}
 use Rattle.events.specs.declared.kind.Kind.TheVariants.{Skip, Produce, Forward, Subscribe, Unsubscribe, Leave, Join}
-use Rattle.floodnet.specs.declared.Turned.{Turned}
-use Rattle.floodnet.specs.Step.{after, turned_of}
+use Rattle.floodnet.specs.Step.{after, turned_of, Numbered}
 use Rattle.engine.specs.declared.Tally.{Tally}
 use Rattle.engine.specs.declared.Answer.{Answer}
 use Rattle.engine.specs.Start.{Beginning, begin_of}
-use Rattle.engine.specs.Standin.{Read, read_at}
 use Rattle.events.specs.declared.Event.TheVariants.{Skip, Produce, Forward, Subscribe, Unsubscribe, Leave, Join}
 use Rattle.events.specs.Fits.{EventFits}
+use Rattle.events.specs.Event.{Read, read_at}
 
 -- ---- the tally
 
@@ -47,11 +46,11 @@ tallied_of t Join d = t
 -- ---- one event
 
 pub record Outcome : Type 0 where
-  pub turned : Turned
+  pub turned : Numbered
   pub network : Network
 
 -- there was no event: refused by a number, or the end (0); its kind is that of doing nothing
-abbrev pub refused_by : ℕ → Turned
+abbrev pub refused_by : ℕ → Numbered
 refused_by number = record { number = number; kind = Skip; receivers = 0 }
 
 -- what was read is done, or refused by its number, 6 or 7
@@ -61,7 +60,7 @@ turn_of b n (Some (Err refusal)) = record { turned = refused_by (number_of refus
 turn_of b n None = record { turned = refused_by 0; network = n }
 
 -- m and r are what becomes of n, and its answer
-abbrev pub Turn : Table → Network → Read → Network → Turned → Type 0
+abbrev pub Turn : Table → Network → Read → Network → Numbered → Type 0
 Turn b n read m r = (m ≡ (turn_of b n read).network) × (r ≡ (turn_of b n read).turned)
 
 -- ---- a run

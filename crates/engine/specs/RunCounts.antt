@@ -2,7 +2,7 @@
 use Rattle.std.specs.Prelude.{Some, None, Ok, Err, List, ℕ}
 use Rattle.events.specs.declared.kind.Kind.{Kind}
 use Rattle.events.specs.Kind.{kind_of}
-use Rattle.engine.specs.Standin.{Read, read_at}
+use Rattle.events.specs.Event.{Read, read_at}
 
 -- the kind of what stands at a place, Skip where there is no event
 unfoldable pub kind_in : Read → Kind

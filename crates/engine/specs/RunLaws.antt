@@ -4,8 +4,8 @@ use Rattle.sets.specs.Set.{size}
 use Rattle.network.specs.declared.Network.{Network}
 use Rattle.network.specs.declared.Table.{Table}
 use Rattle.engine.specs.declared.Tally.{Tally}
-use Rattle.engine.specs.Standin.{read_at}
 use Rattle.engine.specs.Run.{tallied_of, Outcome, turn_of}
+use Rattle.events.specs.Event.{read_at}
 
 -- the outcome of the event at a place, and the tally after it
 abbrev pub outcome_at : List ℕ → ℕ → Table → Network → Outcome

@@ -4,6 +4,5 @@ pub mod ForwardAlone
 pub mod RunCounts
 pub mod RunLaws
 pub mod RunSound
-pub mod Standin
 pub mod StartFacts
 pub mod StartLaws

@@ -5,27 +5,28 @@ ghost use Rattle.engine.specs.Alone.{check_of, copy_of, copied_of, forward_of};
 ghost use Rattle.engine.specs.Alone.{forwarded_as, Gives};
 
 use sets::Word;
-use crate::{Forwarded, standin, start};
-use network::{Checked, Message, Peer, Refusal, Refused};
+use crate::{Forwarded, start};
+use floodnet::turns;
+use network::{Checked, Message, Network, Peer, Refusal, Refused, Table};
 
 // "Reading [..] refuse[s] by 1, then" 20 to 26, "and by nothing else".
 pub fn relay_check(state: &[u8]) -> Checked
     ensures { result ≡ check_of state.now }
 {
-    let mut n = standin::blank();
-    standin::checked(standin::open(&mut n, state))
+    let mut n = Network::blank();
+    Checked::from(n.open(state))
 }
 
 // The state is read, and written where the other buffer has its length.
 fn copy(from: &[u8], to: &mut [u8]) -> Result<(), Refused>
     ensures { (checked_as result ≡ copy_of from.now to.old) × (to.new ≡ copied_of from.now to.old) }
 {
-    let mut n = standin::blank();
-    standin::open(&mut n, from)?;
+    let mut n = Network::blank();
+    n.open(from)?;
     if to.len() != 5120 {
-        return Err(standin::at_zero(Refusal::StateLength));
+        return Err(Refused::from(Refusal::StateLength));
     }
-    standin::save(&n, to);
+    n.save(to);
     Ok(())
 }
 
@@ -33,7 +34,7 @@ fn copy(from: &[u8], to: &mut [u8]) -> Result<(), Refused>
 pub fn relay_copy(from: &[u8], to: &mut [u8]) -> Checked
     ensures { (result ≡ copy_of from.now to.old) × (to.new ≡ copied_of from.now to.old) }
 {
-    standin::checked(copy(from, to))
+    Checked::from(copy(from, to))
 }
 
 // The answer of a single forward, for its receivers or its refusal: a refused one has no receivers.
@@ -66,22 +67,19 @@ impl From<Result<u32, Refused>> for Forwarded {
 fn forward(state: &mut [u8], table: &[u8], peer: u8, message: u8) -> Result<u32, Refused>
     ensures { Gives (forwarded_as result) state.new (forward_of state.old table.now peer message) }
 {
-    let mut n = standin::blank();
-    let mut rows = standin::blank_table();
+    let mut n = Network::blank();
+    let mut rows = Table::blank();
     start::start(&*state, table, 0, &mut n, &mut rows)?;
-    if peer > 31 {
-        return Err(standin::at_zero(Refusal::Unfit));
+    if peer > 31 || message > 63 {
+        return Err(Refused::from(Refusal::Unfit));
     }
-    if message > 63 {
-        return Err(standin::at_zero(Refusal::Unfit));
-    }
-    let turned = standin::forward(&mut n, &rows, Peer(peer), Message(message));
+    let turned = turns::forward(&mut n, &rows, Peer(peer), Message(message));
     match turned.outcome {
         Ok(receivers) => {
-            standin::save_messages(&n, state);
+            n.save_messages(state);
             Ok(receivers)
         }
-        Err(refusal) => Err(standin::at_zero(refusal)),
+        Err(refusal) => Err(Refused::from(refusal)),
     }
 }
 

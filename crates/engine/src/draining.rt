@@ -2,9 +2,9 @@
 ghost use Rattle.std.specs.Prelude.{◌≡◌};
 ghost use Rattle.engine.specs.Draining.{drained_as, drain_end_of};
 
-use crate::{Drained, standin, start};
+use crate::{Drained, start};
 use drain::Drains;
-use network::Refused;
+use network::{Network, Refused, Table};
 
 // The answer for what was drained; of a refusal, "counts 0, not quiet".
 impl From<Result<Drains, Refused>> for Drained {
@@ -37,11 +37,11 @@ fn drain(state: &mut [u8], table: &[u8], budget: u32) -> Result<Drains, Refused>
     ensures { (drained_as result ≡ (drain_end_of state.old table.now budget).answer) ×
         (state.new ≡ (drain_end_of state.old table.now budget).state) }
 {
-    let mut n = standin::blank();
-    let mut rows = standin::blank_table();
+    let mut n = Network::blank();
+    let mut rows = Table::blank();
     start::start(&*state, table, 0, &mut n, &mut rows)?;
-    let drains = standin::drain_all(&mut n, &rows, budget);
-    standin::save_messages(&n, state);
+    let drains = drain::drain_all(&mut n, &rows, budget);
+    n.save_messages(state);
     Ok(drains)
 }
 

@@ -3,21 +3,20 @@ ghost use Rattle.std.specs.Prelude.{◌≡◌};
 ghost use Rattle.network.specs.Refused.{checked_as};
 ghost use Rattle.engine.specs.Imaging.{image_answer_of, imaged_of};
 
-use crate::standin;
-use network::{Checked, Refusal, Refused};
+use network::{Checked, Network, Refusal, Refused};
 
 // The state is read, and its image written where the second buffer has its length.
 fn imaged(state: &[u8], image: &mut [u8]) -> Result<(), Refused>
     ensures { (checked_as result ≡ image_answer_of state.now image.old) ×
         (image.new ≡ imaged_of state.now image.old) }
 {
-    let mut n = standin::blank();
-    standin::open(&mut n, state)?;
+    let mut n = Network::blank();
+    n.open(state)?;
     if image.len() != 5120 {
-        return Err(standin::at_zero(Refusal::ImageLength));
+        return Err(Refused::from(Refusal::ImageLength));
     }
-    let settled = standin::image(&n);
-    standin::save(&settled, image);
+    let settled = broadcastnet::image(&n);
+    settled.save(image);
     Ok(())
 }
 
@@ -26,5 +25,5 @@ pub fn relay_image(state: &[u8], image: &mut [u8]) -> Checked
     ensures { (result ≡ image_answer_of state.now image.old) ×
         (image.new ≡ imaged_of state.now image.old) }
 {
-    standin::checked(imaged(state, image))
+    Checked::from(imaged(state, image))
 }

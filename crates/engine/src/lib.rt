@@ -12,7 +12,6 @@ mod counts; // counts.rt: the update of the tally
 mod draining; // draining.rt: the drain by rounds
 mod imaging; // imaging.rt: the image of a state, written to a second buffer
 pub mod running; // running.rt: a run over a list of events
-mod standin;
 pub mod start; // start.rt: the refusals before any event
 
 ghost use Rattle.std.specs.Prelude.{◌≡◌};
@@ -106,12 +105,12 @@ pub fn relay_run(state: &mut [u8], table: &[u8], events: &[u8], tally: &mut Tall
     ensures { Ends result state.new tally.new
         (run_of state.old table.now events.now tally.old) }
 {
-    let mut n = standin::blank();
-    let mut rows = standin::blank_table();
+    let mut n = Network::blank();
+    let mut rows = Table::blank();
     if let Err(refused) = start::start(&*state, table, events.len(), &mut n, &mut rows) {
         return Answer::refused(refused, 0);
     }
     let answer = running::run_events(&mut n, &rows, events, tally);
-    standin::save(&n, state);
+    n.save(state);
     answer
 }

@@ -2,11 +2,11 @@
 // event by event.
 ghost use Rattle.std.specs.Prelude.{◌≡◌};
 ghost use Rattle.network.specs.Network.{Rows};
+ghost use Rattle.floodnet.specs.Step.{numbered};
 ghost use Rattle.engine.specs.Run.{Turn, ReadFits, ran, run_all, RunsTo};
-ghost use Rattle.engine.specs.Standin.{turn_of};
 
-use crate::standin::Turned;
-use crate::{Answer, Tally, standin};
+use floodnet::Turned;
+use crate::{Answer, Tally};
 use events::Event;
 use events::kind::Kind;
 use network::{Network, Refusal, Refused, Table};
@@ -16,10 +16,10 @@ use network::{Network, Refusal, Refused, Table};
 fn turn(n: &mut Network, rows: &Table, read: Option<Result<Event, Refusal>>) -> Turned
     requires fits { ReadFits read }
     requires rows { Rows rows.now }
-    ensures { Turn rows.now n.old read n.new (turn_of result) }
+    ensures { Turn rows.now n.old read n.new (numbered result) }
 {
     match read {
-        Some(Ok(e)) => standin::step(n, rows, e),
+        Some(Ok(e)) => floodnet::step(n, rows, e),
         Some(Err(refusal)) => Turned {
             kind: Kind::Skip,
             outcome: Err(refusal),
@@ -43,7 +43,7 @@ pub fn run_events(n: &mut Network, rows: &Table, events: &[u8], tally: &mut Tall
     };
     let count = events.len() / 16;
     for place in 0..count {
-        let turned = turn(&mut *n, rows, standin::event_at(events, place));
+        let turned = turn(&mut *n, rows, events::event_at(events, place));
         match turned.outcome {
             Ok(receivers) => tally.count_in(turned.kind, receivers),
             Err(refusal) => {

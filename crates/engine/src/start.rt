@@ -2,7 +2,7 @@
 ghost use Rattle.std.specs.Prelude.{◌≡◌};
 ghost use Rattle.engine.specs.Start.{begun_as, begun_of, begin_of};
 
-use crate::{Begun, standin};
+use crate::Begun;
 use network::{Network, Refusal, Refused, Table};
 
 // Reads the network and the table, or refuses. `events` is the length of the event bytes; 0 where there are none.
@@ -16,24 +16,24 @@ pub fn start(
     ensures { begun_as result n.new rows.new ≡ begin_of state.now table.now events }
 {
     if state.len() != 5120 {
-        return Err(standin::at_zero(Refusal::StateLength));
+        return Err(Refused::from(Refusal::StateLength));
     }
     if table.len() != 256 {
-        return Err(standin::at_zero(Refusal::TableLength));
+        return Err(Refused::from(Refusal::TableLength));
     }
     if events % 16 != 0 {
-        return Err(standin::at_zero(Refusal::EventsLength));
+        return Err(Refused::from(Refusal::EventsLength));
     }
-    standin::read_table(rows, table)?;
-    standin::open(n, state)
+    rows.read(table)?;
+    n.open(state)
 }
 
 // The same by value.
 pub fn begin(state: &[u8], table: &[u8], events: usize) -> Result<Begun, Refused>
     ensures { begun_of result ≡ begin_of state.now table.now events }
 {
-    let mut network = standin::blank();
-    let mut rows = standin::blank_table();
+    let mut network = Network::blank();
+    let mut rows = Table::blank();
     start(state, table, events, &mut network, &mut rows)?;
     Ok(Begun {
         network,

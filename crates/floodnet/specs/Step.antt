@@ -56,17 +56,17 @@ receivers_of n b (Leave p) = 0
 receivers_of n b (Join p j) = 0
 
 -- the answer in 01's numbers: the number, the kind of the event, and its receivers
-pub record Turn : Type 0 where
+pub record Numbered : Type 0 where
   pub number : ℕ
   pub kind : Kind
   pub receivers : ℕ
 
 -- a refused event has no receivers
-unfoldable pub turned : ℕ → Kind → ℕ → Turn
+unfoldable pub turned : ℕ → Kind → ℕ → Numbered
 turned zero kind to = record { number = 0; kind = kind; receivers = to }
 turned (suc k) kind to = record { number = suc k; kind = kind; receivers = 0 }
 
-unfoldable pub turned_of : Network → Table → Event → Turn
+unfoldable pub turned_of : Network → Table → Event → Numbered
 turned_of n b e = turned (refusal n b e) (kind_of e) (receivers_of n b e)
 
 -- what the code answers, in 01's numbers
@@ -74,8 +74,8 @@ abbrev pub received : Result ℕ Refusal → ℕ
 received (Ok to) = to
 received (Err refusal) = 0
 
-abbrev pub turn_of : Turned → Turn
-turn_of r = record { number = number r.outcome; kind = r.kind; receivers = received r.outcome }
+abbrev pub numbered : Turned → Numbered
+numbered r = record { number = number r.outcome; kind = r.kind; receivers = received r.outcome }
 
 -- the answer to e with this outcome
 abbrev pub answer_to : Event → Result ℕ Refusal → Turned
@@ -84,4 +84,4 @@ answer_to e outcome = record { kind = kind_of e; outcome = outcome }
 -- the event e made n' of n and was answered by r
 pub record Stepped (n n' : Network) (b : Table) (e : Event) (r : Turned) : Type 0 where
   pub state : n' ≡ after n b e
-  pub answer : turn_of r ≡ turned_of n b e
+  pub answer : numbered r ≡ turned_of n b e

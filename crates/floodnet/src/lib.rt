@@ -6,7 +6,7 @@
 ghost use Rattle.std.specs.Prelude.{◌≡◌};
 ghost use Rattle.network.specs.Network.{Rows};
 ghost use Rattle.events.specs.Fits.{EventFits};
-ghost use Rattle.floodnet.specs.Step.{after, turn_of, turned_of};
+ghost use Rattle.floodnet.specs.Step.{after, numbered, turned_of};
 
 use events::Event;
 use events::kind::Kind;
@@ -33,7 +33,7 @@ pub fn step(n: &mut Network, table: &Table, e: Event) -> Turned
     requires fits { EventFits e }
     requires rows { Rows table.now }
     ensures state { n.new ≡ after n.old table.now e }
-    ensures answer { turn_of result ≡ turned_of n.old table.now e }
+    ensures answer { numbered result ≡ turned_of n.old table.now e }
 {
     let outcome = match e {
         Event::Skip => Ok(0),

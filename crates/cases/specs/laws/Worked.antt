@@ -5,7 +5,7 @@ use Rattle.sets.proofs.laws.Bools.{and_yes, clash}
 use Rattle.endian.specs.laws.Le.{Bytes}
 use Rattle.flooding.specs.Machine.{Drained}
 use Rattle.network.specs.declared.Network.{Network}
-use Rattle.network.specs.declared.Opened.{Opened}
+use Rattle.network.specs.State.{Opened}
 use Rattle.network.specs.Network.{peer, neighbours_of}
 use Rattle.network.specs.Sound.{Sound}
 use Rattle.network.specs.State.{open_of, bytes_of}

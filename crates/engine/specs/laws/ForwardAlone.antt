@@ -13,10 +13,9 @@ use Rattle.network.specs.State.{bytes_of}
 use Rattle.events.specs.declared.Event.{Event}
 use Rattle.events.specs.declared.Event.TheVariants.{Forward}
 use Rattle.events.specs.Fits.{EventFits}
-use Rattle.floodnet.specs.declared.Turned.{Turned}
 use Rattle.floodnet.specs.Refusals.{refusal_forward}
 use Rattle.floodnet.specs.Forward.{forwarded, receivers}
-use Rattle.floodnet.specs.Step.{refusal, effect, if_accepted, after, receivers_of, turned, turned_of}
+use Rattle.floodnet.specs.Step.{refusal, effect, if_accepted, after, receivers_of, turned, turned_of, Numbered}
 use Rattle.floodnet.specs.laws.StepLaws.{turned_number}
 use Rattle.engine.specs.declared.Forwarded.{Forwarded}
 use Rattle.engine.specs.Start.{Beginning, begin_of}
@@ -64,24 +63,24 @@ module _ (s : List ℕ) (n : Network) (b : Table) (p m : ℕ) where
       (k ∙ rw (v, w), rw (v, w))
 
   -- refused by 8 or 13
-  pub forward_refused : {r : Forwarded} {x : Turned} → r ≡ forwarded_by x.number 0 0 0 → p ≤ 31 → m ≤ 63
+  pub forward_refused : {r : Forwarded} {x : Numbered} → r ≡ forwarded_by x.number 0 0 0 → p ≤ 31 → m ≤ 63
       → x ≡ turned_of n b (forward_event p m) → (x.number ≡ 0 → ⊥) → Gives r s (forward_on s n b p m)
   unfolding forward_on
   forward_refused {r} {x} k l j q h =
       let v : ltb p 32 ≡ true = lt-ltb p 32 (omega arith) in
       let w : ltb m 64 ≡ true = lt-ltb m 64 (omega arith) in
-      let y : x.number ≡ refusal_forward n (peer p) (message m) = ap (λ (u : Turned). u.number) q ∙ forward_number n b p m in
+      let y : x.number ≡ refusal_forward n (peer p) (message m) = ap (λ (u : Numbered). u.number) q ∙ forward_number n b p m in
       (k ∙ rw (v, w, ← y, ne_eqb h), rw (v, w, ← y, ne_eqb h))
 
   -- accepted
-  pub forward_done : {r : Forwarded} {x : Turned} {n' : Network} {to : List ℕ} → r ≡ forwarded_by 0 0 0 x.receivers → p ≤ 31 → m ≤ 63
+  pub forward_done : {r : Forwarded} {x : Numbered} {n' : Network} {to : List ℕ} → r ≡ forwarded_by 0 0 0 x.receivers → p ≤ 31 → m ≤ 63
       → x ≡ turned_of n b (forward_event p m) → n' ≡ after n b (forward_event p m) → x.number ≡ 0 → to ≡ bytes_of n' → Gives r to (forward_on s n b p m)
   unfolding forward_on
   forward_done {r} {x} {n'} {to} k l j q a h c =
       let v : ltb p 32 ≡ true = lt-ltb p 32 (omega arith) in
       let w : ltb m 64 ≡ true = lt-ltb m 64 (omega arith) in
-      let y : refusal_forward n (peer p) (message m) ≡ 0 = sym (forward_number n b p m) ∙ (sym (ap (λ (u : Turned). u.number) q) ∙ h) in
-      let d : x.receivers ≡ receivers n b (peer p) (message m) = ap (λ (u : Turned). u.receivers) q ∙ forward_receivers n b p m y in
+      let y : refusal_forward n (peer p) (message m) ≡ 0 = sym (forward_number n b p m) ∙ (sym (ap (λ (u : Numbered). u.number) q) ∙ h) in
+      let d : x.receivers ≡ receivers n b (peer p) (message m) = ap (λ (u : Numbered). u.receivers) q ∙ forward_receivers n b p m y in
       (k ∙ rw (v, w, y, d), rw (v, w, y) (c ∙ ap bytes_of (a ∙ forward_after n b p m y)))
 
 module _ (s t : List ℕ) (p m : ℕ) {g : Beginning} (e : g ≡ begin_of s t 0) where

@@ -12,12 +12,12 @@ use Rattle.events.specs.declared.kind.Kind.TheVariants.{Skip, Produce, Forward, 
 use Rattle.events.specs.Kind.{kind_of, code_of, alike}
 use Rattle.floodnet.specs.Step.{refusal, receivers_of, turned_of}
 use Rattle.floodnet.specs.laws.StepLaws.{turned_kind}
-use Rattle.engine.specs.Standin.{Read, read_at}
 use Rattle.engine.specs.declared.Tally.{Tally}
 use Rattle.engine.specs.Run.{tallied_of, turn_of, Final, run_from}
 use Rattle.engine.specs.RunLaws.{outcome_at, tally_after}
 use Rattle.engine.specs.laws.RunLaws.{run_ind}
 use Rattle.engine.specs.RunCounts.{kind_in, kind_at}
+use Rattle.events.specs.Event.{Read, read_at}
 
 -- how many of the events from `place` up to the accepted ones are of this kind
 abbrev pub kinds : List ℕ → Kind → ℕ → ℕ → ℕ

@@ -14,17 +14,16 @@ use Rattle.events.specs.declared.Event.{Event}
 use Rattle.events.specs.declared.Event.TheVariants.{Skip, Produce, Forward, Subscribe, Unsubscribe, Leave, Join}
 use Rattle.events.specs.declared.kind.Kind.{Kind}
 use Rattle.events.specs.Kind.{kind_of, code_of, alike}
-use Rattle.floodnet.specs.Step.{refusal, effect, if_accepted, after, receivers_of, turned, turned_of}
+use Rattle.floodnet.specs.Step.{refusal, effect, if_accepted, after, receivers_of, turned, turned_of, Numbered}
 use Rattle.floodnet.specs.laws.StepLaws.{after_sound, effect_pairs}
 use Rattle.floodnet.specs.View.{pairs}
-use Rattle.floodnet.specs.declared.Turned.{Turned}
-use Rattle.engine.specs.Standin.{Read, read_at}
-use Rattle.engine.specs.laws.Standin.{read_fits}
 use Rattle.engine.specs.declared.Tally.{Tally}
 use Rattle.engine.specs.Run.{turn_of, Final, run_from, ReadFits}
 use Rattle.engine.specs.RunLaws.{outcome_at, tally_after}
 use Rattle.engine.specs.laws.RunLaws.{run_ind}
 use Rattle.engine.specs.laws.RunCounts.{tallied_produced, tallied_forwards, tallied_deliveries}
+use Rattle.events.specs.Event.{Read, read_at}
+use Rattle.events.specs.laws.RoundTrip.{read_fits}
 
 pub reads_fit : (ev : List ℕ) → Bytes ev → (place : ℕ) → ReadFits (read_at ev place)
 unfolding ReadFits
@@ -50,7 +49,7 @@ turn_pairs : {b : Table} {n : Network} → Sound n → Rows b → (r : Read) →
 unfolding turn_of ReadFits turned_of turned after if_accepted code_of alike
 turn_pairs {b} {n} s rows (Some (Ok e)) f h = first (refusal n b e) refl h
   where
-    answer : ℕ → Turned
+    answer : ℕ → Numbered
     answer k = turned k (kind_of e) (receivers_of n b e)
 
     first : (k : ℕ) → refusal n b e ≡ k → (answer k).number ≡ 0

@@ -5,7 +5,7 @@ use Rattle.std.proofs.lemmas.Bool.{eqb-false}
 use Rattle.endian.specs.laws.Le.{Bytes}
 use Rattle.network.specs.Network.{Rows}
 use Rattle.network.specs.Sound.{Sound}
-use Rattle.network.specs.declared.Listed.{Listed}
+use Rattle.network.specs.Rows.{Listed}
 use Rattle.network.specs.State.{open_of, bytes_of}
 use Rattle.network.specs.Rows.{bad_row, list_of}
 use Rattle.network.specs.laws.Listing.{listed_rows, blank_rows_lem}

@@ -1,8 +1,8 @@
 -- Laws of the start: each refusal where its test fails first, and what is known past them. Assumes nothing.
 use Rattle.std.specs.Prelude.{◌≡◌, List, ℕ, ◌%◌, length}
 use Rattle.sets.proofs.laws.Bools.{ne_eqb}
-use Rattle.network.specs.declared.Opened.{Opened}
-use Rattle.network.specs.declared.Listed.{Listed}
+use Rattle.network.specs.State.{Opened}
+use Rattle.network.specs.Rows.{Listed}
 use Rattle.network.specs.State.{open_of}
 use Rattle.network.specs.Rows.{list_of}
 use Rattle.engine.specs.Start.{refused_at, begin_of}

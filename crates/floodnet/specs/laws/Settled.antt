@@ -10,7 +10,7 @@ use Rattle.network.specs.Refusal.{number}
 use Rattle.events.specs.declared.Event.{Event}
 use Rattle.events.specs.laws.Settled.{settled}
 use Rattle.floodnet.specs.declared.Turned.{Turned}
-use Rattle.floodnet.specs.Step.{Turn, received, turn_of, Stepped}
+use Rattle.floodnet.specs.Step.{Numbered, received, numbered, Stepped}
 
 -- the arrays of a network, one by one
 pub record SameArrays (x y : Network) : Type 0 where
@@ -80,10 +80,10 @@ outcome_fixes (Err KnownWrong) = refl
 outcome_fixes (Err PendingSeen) = refl
 
 -- the answer of an event, which is given in 01's numbers
-pub settled_turn : (r q : Turned) {d : Turn} → turn_of r ≡ d → turn_of q ≡ d → r ≡ q
+pub settled_turn : (r q : Turned) {d : Numbered} → numbered r ≡ d → numbered q ≡ d → r ≡ q
 settled_turn r q h k =
     sym (ap (λ (a : Result ℕ Refusal). record { kind = r.kind; outcome = a }) (outcome_fixes r.outcome))
-    ∙ ap (λ (t : Turn). record { kind = t.kind; outcome = outcome_at t.number t.receivers }) (settled h k)
+    ∙ ap (λ (t : Numbered). record { kind = t.kind; outcome = outcome_at t.number t.receivers }) (settled h k)
     ∙ ap (λ (a : Result ℕ Refusal). record { kind = q.kind; outcome = a }) (outcome_fixes q.outcome)
 
 -- the turns of the events: the network and the answer

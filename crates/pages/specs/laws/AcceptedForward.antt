@@ -5,7 +5,7 @@ use Rattle.std.proofs.Math.Decide.{ℕ_discrete}
 use Rattle.sets.specs.Set.{size}
 use Rattle.sets.proofs.laws.Sizes.{size_none}
 use Rattle.endian.specs.laws.Le.{Bytes}
-use Rattle.network.specs.declared.Opened.{Opened}
+use Rattle.network.specs.State.{Opened}
 use Rattle.network.specs.Network.{peer, message, present, pending}
 use Rattle.network.specs.Sound.{Sound}
 use Rattle.network.specs.laws.Listing.{listed_rows}

@@ -9,7 +9,7 @@ use Rattle.network.specs.declared.Table.{Table}
 use Rattle.network.specs.Network.{peer, message}
 use Rattle.network.specs.State.{bytes_of}
 use Rattle.events.specs.declared.Event.{Event}
-use Rattle.events.specs.declared.Read.{Read}
+use Rattle.events.specs.Event.{Read}
 use Rattle.events.specs.Writing.{record_of}
 use Rattle.events.specs.Fits.{EventFits}
 use Rattle.events.specs.laws.RoundTrip.{record_length, read_record}

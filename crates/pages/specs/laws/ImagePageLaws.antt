@@ -4,7 +4,7 @@ use Rattle.std.proofs.Common.{sym, ap, subst, ◌∙◌, arith}
 use Rattle.endian.specs.laws.Le.{Bytes}
 use Rattle.network.specs.declared.Network.{Network}
 use Rattle.network.specs.declared.Table.{Table}
-use Rattle.network.specs.declared.Opened.{Opened}
+use Rattle.network.specs.State.{Opened}
 use Rattle.network.specs.Network.{Rows}
 use Rattle.network.specs.Sound.{Sound}
 use Rattle.network.specs.State.{open_of, opened, bytes_of}
@@ -12,7 +12,7 @@ use Rattle.network.specs.laws.Listing.{listed_rows}
 use Rattle.network.specs.laws.OpenedSound.{opened_sound}
 use Rattle.network.specs.laws.Trips.{write_read}
 use Rattle.events.specs.declared.Event.{Event}
-use Rattle.events.specs.declared.Read.{Read}
+use Rattle.events.specs.Event.{Read}
 use Rattle.events.specs.declared.Read.TheVariants.{Taken, End, Unknown, Unfit}
 use Rattle.events.specs.Event.{read_at}
 use Rattle.events.specs.laws.ReadingLaws.{never_ended}

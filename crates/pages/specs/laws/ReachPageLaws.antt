@@ -17,7 +17,7 @@ use Rattle.network.specs.laws.SoundLaws.{pending_peer, pending_message}
 use Rattle.network.specs.laws.Listing.{listed_rows}
 use Rattle.network.specs.laws.Trips.{read_write, bytes_long, write_read}
 use Rattle.events.specs.declared.Event.TheVariants as events
-use Rattle.events.specs.declared.Read.{Read}
+use Rattle.events.specs.Event.{Read}
 use Rattle.events.specs.declared.Read.TheVariants.{Taken}
 use Rattle.events.specs.Event.{read_at}
 use Rattle.floodnet.specs.Forward.{forwarded}

@@ -12,7 +12,7 @@ use Rattle.network.specs.declared.Table.{Table}
 use Rattle.network.specs.Network.{Rows}
 use Rattle.network.specs.Sound.{Sound}
 use Rattle.events.specs.declared.Event.{Event}
-use Rattle.events.specs.declared.Read.{Read}
+use Rattle.events.specs.Event.{Read}
 use Rattle.events.specs.declared.Read.TheVariants.{Taken, End, Unknown, Unfit}
 use Rattle.events.specs.Event.{read_at}
 use Rattle.events.specs.Kind.{kind_of}

@@ -12,14 +12,14 @@ use Rattle.sets.proofs.laws.Counts.{count_ext}
 use Rattle.endian.specs.laws.Le.{Bytes}
 use Rattle.network.specs.declared.Network.{Network}
 use Rattle.network.specs.declared.Table.{Table}
-use Rattle.network.specs.declared.Opened.{Opened}
+use Rattle.network.specs.State.{Opened}
 use Rattle.network.specs.Sound.{Sound}
 use Rattle.network.specs.State.{open_of, opened, bytes_of}
 use Rattle.network.specs.laws.Listing.{listed_rows}
 use Rattle.network.specs.laws.OpenedSound.{opened_sound}
 use Rattle.network.specs.laws.Trips.{write_read}
 use Rattle.events.specs.declared.Event.{Event}
-use Rattle.events.specs.declared.Read.{Read}
+use Rattle.events.specs.Event.{Read}
 use Rattle.events.specs.declared.Read.TheVariants.{Taken}
 use Rattle.events.specs.declared.kind.Kind.{Kind}
 use Rattle.events.specs.Event.{reading_of}

@@ -8,8 +8,8 @@ use Rattle.std.proofs.Math.Decide.{dec_lt}
 use Rattle.std.proofs.lemmas.Bool.{eqb-false}
 use Rattle.sets.proofs.laws.Bools.{either, clash, not_yes, not_no}
 use Rattle.sets.proofs.laws.Least.{lowest_of_lt_holds, lowest_of_least, lowest_of_is, lowest_of_none}
-use Rattle.network.specs.declared.Opened.{Opened}
-use Rattle.network.specs.declared.Listed.{Listed}
+use Rattle.network.specs.State.{Opened}
+use Rattle.network.specs.Rows.{Listed}
 use Rattle.network.specs.State.{open_of, opened}
 use Rattle.network.specs.Rows.{row_right, bad_row, list_of}
 use Rattle.network.specs.laws.OpenedSound.{accepted}

@@ -1,10 +1,10 @@
 -- `engine::alone::copy` meets its contract. Assumes nothing.
 use mathlib.Core.Path.{refl}
 use Rattle.std.proofs.lemmas.Result.{err_from_is_err_and}
-use Rattle.engine.specs.laws.Standin.{refusal_not_0}
 use Rattle.engine.proofs.AloneLaws.{copy_refused, copy_short, copy_done}
 use Rattle.engine.proofs.Lent.{opened_is}
 use Rattle.engine.proofs.alone.copy.Goals as goal
+use Rattle.network.specs.laws.Refusal.{refusal_not_0}
 
 pub returns-in_err-open : goal.returns-in_err-open
 returns-in_err-open c =
@@ -12,7 +12,7 @@ returns-in_err-open c =
     rw (p.1, p.2) (copy_refused _ _ (opened_is c.in_err-open.ensures) (refusal_not_0 _))
 
 pub returns-then-to-ne5120 : goal.returns-then-to-ne5120
-returns-then-to-ne5120 c = rw c.at_zero.ensures (copy_short _ _ (opened_is c.in_ok-open.ensures) refl c.if-to-ne5120.true)
+returns-then-to-ne5120 c = rw c.from.ensures (copy_short _ _ (opened_is c.in_ok-open.ensures) refl c.if-to-ne5120.true)
 
 pub returns : goal.returns
 returns c = copy_done _ _ _ (opened_is c.in_ok-open.ensures) refl c.if-to-ne5120.false c.save.ensures

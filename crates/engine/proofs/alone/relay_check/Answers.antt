@@ -5,4 +5,4 @@ use Rattle.engine.proofs.Lent.{opened_is}
 use Rattle.engine.proofs.alone.relay_check.Goals as goal
 
 pub returns : goal.returns
-returns c = c.checked.ensures ∙ check_is _ (opened_is c.open.ensures)
+returns c = c.from.ensures ∙ check_is _ (opened_is c.open.ensures)

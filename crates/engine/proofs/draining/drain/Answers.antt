@@ -1,13 +1,14 @@
 -- `engine::draining::drain` meets its contract. Assumes nothing.
+use borrow.Author.Rules.{rules}
 use mathlib.Core.Path.{refl, ap, ◌∙◌}
 use Rattle.std.proofs.lemmas.Result.{err_from_is_err_and}
 use Rattle.endian.specs.laws.Le.{Bytes}
 use Rattle.network.specs.State.{bytes_of}
 use Rattle.engine.specs.laws.DrainingLaws.{drain_refused, drain_done}
-use Rattle.engine.specs.laws.Standin.{refusal_not_0}
 use Rattle.engine.specs.laws.StartFacts.{started_rows, started_long, started_bytes}
 use Rattle.engine.proofs.Lent.{saved}
 use Rattle.engine.proofs.draining.drain.Goals as goal
+use Rattle.network.specs.laws.Refusal.{refusal_not_0}
 
 pub returns-in_err-start : goal.returns-in_err-start
 returns-in_err-start c =
@@ -24,5 +25,5 @@ pub returns : goal.returns
 returns c =
     let e = c.in_ok-start.ensures in
     let d = c.drain_all-drains.ensures in
-    let h : Bytes c.args.state.now = λ i. (c.slice_known-1.given i).fits in
+    let h : Bytes c.args.state.now = search rules in
     drain_done _ _ _ _ h e refl d.drains (saved _ _ (started_bytes _ _ _ e h refl) d.others c.save_messages.ensures ∙ ap bytes_of d.others) refl

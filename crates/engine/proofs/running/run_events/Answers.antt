@@ -7,15 +7,12 @@ use Rattle.sets.specs.Set.{size}
 use Rattle.sets.proofs.laws.Sizes.{size_le}
 use Rattle.engine.specs.Run.{answered, tallied_of, run_all}
 use Rattle.engine.specs.laws.RunSound.{reads_fit}
-use Rattle.engine.specs.laws.Standin.{read_is}
 use Rattle.engine.proofs.RunEnds.{runs_as}
-use Rattle.engine.proofs.RunLoop.{going_start, going_room}
+use Rattle.engine.proofs.RunLoop.{going_room}
 use Rattle.engine.proofs.RunTurns.{ran_stop, ran_on, ran_end}
 use Rattle.engine.proofs.TurnLaws.{turned_ok, turned_err}
 use Rattle.engine.proofs.running.run_events.Goals as goal
-
-pub loop-place-init : goal.loop-place-init
-loop-place-init c = going_start _ _ _ _
+use Rattle.events.specs.laws.ReadingLaws.{read_is}
 
 pub turn-turned-requires-clause-fits : goal.turn-turned-requires-clause-fits
 turn-turned-requires-clause-fits c =

@@ -70,17 +70,11 @@ fn forward(state: &mut [u8], table: &[u8], peer: u8, message: u8) -> Result<u32,
     let mut n = Network::blank();
     let mut rows = Table::blank();
     start::start(&*state, table, 0, &mut n, &mut rows)?;
-    if peer > 31 || message > 63 {
-        return Err(Refused::from(Refusal::Unfit));
-    }
-    let turned = turns::forward(&mut n, &rows, Peer(peer), Message(message));
-    match turned.outcome {
-        Ok(receivers) => {
-            n.save_messages(state);
-            Ok(receivers)
-        }
-        Err(refusal) => Err(Refused::from(refusal)),
-    }
+    let p = Peer::try_from(peer)?;
+    let m = Message::try_from(message)?;
+    let receivers = turns::forward(&mut n, &rows, p, m).outcome?;
+    n.save_messages(state);
+    Ok(receivers)
 }
 
 // "Called alone on a state, table, peer and message, it refuses by 1, 2, 4," 20 to 26, "7, 8, 13 in this order, place 0 for the last

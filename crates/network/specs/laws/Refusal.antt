@@ -1,9 +1,11 @@
 -- Laws of specs/Refusal.antt. Assumes nothing.
-use Rattle.std.specs.Prelude.{◌≡◌, refl}
-use Rattle.std.proofs.Common.{arith}
+use Rattle.std.specs.Prelude.{◌≡◌, refl, Bool, true, false, Ok, Err, ℕ, ◌<◌, ◌≤◌, ltb}
+use Rattle.std.proofs.Common.{arith, ltb-true}
+use Rattle.std.proofs.lemmas.Bool.{ltb-false}
 use Rattle.network.specs.declared.refusal.Refusal.{Refusal}
 use Rattle.network.specs.declared.refusal.Refusal.TheVariants.{StateLength, TableLength, EventsLength, BadRow, UnknownCode, Unfit, PeerAbsent, PeerPresent, NotOrigin, NotPublished, NotNew, NotPending, StillPending, NamesItself, NamesAbsent, InputLength, ImageLength, BadHead, AbsentNotEmpty, OwnNeighbour, NeighbourAbsent, NotListedBack, KnownWrong, PendingSeen}
 use Rattle.network.specs.Refusal.{number_of}
+use Rattle.network.specs.Refused.{OrUnfit}
 use Rattle.network.specs.declared.Network.{Network}
 use Rattle.network.specs.declared.Peer.{Peer}
 use Rattle.network.specs.Rules.{detail_of}
@@ -62,3 +64,18 @@ detail_else NeighbourAbsent n p a b c = absurd (a refl)
 detail_else NotListedBack n p a b c = absurd (b refl)
 detail_else KnownWrong n p a b c = absurd (c refl)
 detail_else PendingSeen n p a b c = refl
+
+-- A byte that was taken for a peer or a message is one; one that was refused, by 7, is none.
+pub unfit_ok : {A : Type 0} (a : A) {r : A} (i n : ℕ) → OrUnfit (ltb i n) a (Ok r) → (i < n) × (r ≡ a)
+unfit_ok a {r} i n = go (ltb i n) refl
+  where
+    go : (b : Bool) → ltb i n ≡ b → OrUnfit b a (Ok r) → (i < n) × (r ≡ a)
+    go true e u = (ltb-true i n e, cc)
+    go false e u = cc
+
+pub unfit_err : {A : Type 0} (a : A) {k : Refusal} (i n : ℕ) → OrUnfit (ltb i n) a (Err k) → (n ≤ i) × (k ≡ Unfit)
+unfit_err a {k} i n = go (ltb i n) refl
+  where
+    go : (b : Bool) → ltb i n ≡ b → OrUnfit b a (Err k) → (n ≤ i) × (k ≡ Unfit)
+    go true e u = cc
+    go false e u = (ltb-false i n e, cc)

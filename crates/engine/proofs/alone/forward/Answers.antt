@@ -9,44 +9,53 @@ use Rattle.engine.specs.Alone.{forwarded_by}
 use Rattle.engine.specs.laws.StartFacts.{started_rows, started_long, started_bytes}
 use Rattle.engine.proofs.Lent.{saved, forward_keeps}
 use Rattle.engine.proofs.TurnLaws.{turned_ok, turned_err}
-use Rattle.engine.proofs.alone.forward.Goals.{then-peer-gt31-via-then-peer-gt31, then-peer-gt31-via-else-peer-gt31+then-message-gt63}
 use Rattle.engine.proofs.alone.forward.Goals as goal
-use Rattle.network.specs.laws.Refusal.{refusal_not_0}
+use Rattle.network.specs.laws.Refusal.{refusal_not_0, unfit_ok, unfit_err}
 
 pub returns-in_err-start : goal.returns-in_err-start
 returns-in_err-start c =
     let p = err_from_is_err_and c.from_residual.result c.from_residual.ensures.1 in
     rw (p.1, p.2) (forward_begun _ _ _ _ c.in_err-start.ensures refl (refusal_not_0 _))
 
-pub returns-then-peer-gt31 : goal.returns-then-peer-gt31
-returns-then-peer-gt31 c =
-    rw c.from.ensures
-    (forward_read _ _ _ _ c.in_ok-start.ensures refl
-    (elim c.then-peer-gt31.branch [
-      | then-peer-gt31-via-then-peer-gt31 w ↦ forward_peer _ _ _ _ _ refl w.if-peer-gt31.true
-      | then-peer-gt31-via-else-peer-gt31+then-message-gt63 w ↦ forward_message _ _ _ _ _ refl w.if-peer-gt31.false w.if-message-gt63.true
-    ]))
+pub returns-in_err-p : goal.returns-in_err-p
+returns-in_err-p c =
+    let q = err_from_is_err_and c.from_residual-in_err-p.result c.from_residual-in_err-p.ensures.1 in
+    let w = unfit_err _ _ 32 c.in_err-p.ensures in
+    rw (q.1, q.2, w.1) (forward_read _ _ _ _ c.in_ok-start.ensures refl (forward_peer _ _ _ _ _ refl w.0))
 
-pub forward-turned-requires : goal.forward-turned-requires
-forward-turned-requires c =
-    (omega (arith, c.if-peer-gt31.false), omega (arith, c.if-message-gt63.false), (started_rows _ _ _ c.in_ok-start.ensures).topics_fit _)
+pub returns-in_err-m : goal.returns-in_err-m
+returns-in_err-m c =
+    let q = err_from_is_err_and c.from_residual-in_err-m.result c.from_residual-in_err-m.ensures.1 in
+    let w = unfit_err _ _ 64 c.in_err-m.ensures in
+    let p = unfit_ok _ _ 32 c.in_ok-p.ensures in
+    rw (q.1, q.2, w.1) (forward_read _ _ _ _ c.in_ok-start.ensures refl (forward_message _ _ _ _ _ refl (omega (arith, p.0)) w.0))
+
+pub returns-in_err-receivers : goal.returns-in_err-receivers
+returns-in_err-receivers c =
+    let q = err_from_is_err_and c.from_residual-in_err-receivers.result c.from_residual-in_err-receivers.ensures.1 in
+    let p = unfit_ok _ _ 32 c.in_ok-p.ensures in
+    let m = unfit_ok _ _ 64 c.in_ok-m.ensures in
+    let w = turned_err c.forward.result c.in_err-receivers.was in
+    rw (q.1, q.2)
+    (forward_read _ _ _ _ c.in_ok-start.ensures refl
+    (forward_refused _ _ _ _ _ (ap (λ (k : ℕ). forwarded_by k 0 0 0) (sym w.0)) (omega (arith, p.0)) (omega (arith, m.0)) (rw (p.1, m.1) at c.forward.ensures.answer) w.1))
+
+pub forward-requires : goal.forward-requires
+forward-requires c =
+    let p = unfit_ok _ _ 32 c.in_ok-p.ensures in
+    let m = unfit_ok _ _ 64 c.in_ok-m.ensures in
+    rw (p.1, m.1) (p.0, m.0, (started_rows _ _ _ c.in_ok-start.ensures).topics_fit _)
 
 pub save_messages-requires : goal.save_messages-requires
 save_messages-requires c = started_long _ _ _ c.in_ok-start.ensures refl
 
-pub returns-in-Ok : goal.returns-in-Ok
-returns-in-Ok c =
+pub returns : goal.returns
+returns c =
     let e = c.in_ok-start.ensures in
-    let t = c.forward-turned.ensures in
-    let w = turned_ok c.forward-turned.result c.in-Ok.is in
+    let p = unfit_ok _ _ 32 c.in_ok-p.ensures in
+    let m = unfit_ok _ _ 64 c.in_ok-m.ensures in
+    let state = rw (p.1, m.1) at c.forward.ensures.state in
+    let w = turned_ok c.forward.result c.in_ok-receivers.was in
     forward_read _ _ _ _ e refl
-    (forward_done _ _ _ _ _ (ap (forwarded_by 0 0 0) (sym w.1)) c.if-peer-gt31.false c.if-message-gt63.false t.answer t.state w.0
-    (saved _ _ (started_bytes _ _ _ e (search rules) refl) (forward_keeps _ _ _ _ t.state) c.save_messages.ensures))
-
-pub returns-in-Err : goal.returns-in-Err
-returns-in-Err c =
-    let t = c.forward-turned.ensures in
-    let w = turned_err c.forward-turned.result c.in-Err.is in
-    rw c.from-in-Err.ensures
-    (forward_read _ _ _ _ c.in_ok-start.ensures refl
-    (forward_refused _ _ _ _ _ (ap (λ (k : ℕ). forwarded_by k 0 0 0) (sym w.0)) c.if-peer-gt31.false c.if-message-gt63.false t.answer w.1))
+    (forward_done _ _ _ _ _ (ap (forwarded_by 0 0 0) (sym w.1)) (omega (arith, p.0)) (omega (arith, m.0)) (rw (p.1, m.1) at c.forward.ensures.answer) state w.0
+    (saved _ _ (started_bytes _ _ _ e (search rules) refl) (forward_keeps _ _ _ _ state) c.save_messages.ensures))

@@ -14,8 +14,8 @@ pub(crate) fn words(state: &[u8; 5120], j: usize) -> [u32; 32]
     ensures { result ≡ tab 32 (λ (p : ℕ). word_in state.now p j) }
 {
     let mut r = [0u32; 32];
-    for p in 0..32 {
-        r[p] = u32::read(state, 4 * (40 * p + j));
+    for (p, w) in r.iter_mut().enumerate() {
+        *w = u32::read(state, 4 * (40 * p + j));
     }
     r
 }
@@ -27,8 +27,8 @@ pub(crate) fn longs(state: &[u8; 5120], j: usize) -> [u64; 32]
     ensures { result ≡ tab 32 (λ (p : ℕ). long_in state.now p j) }
 {
     let mut r = [0u64; 32];
-    for p in 0..32 {
-        r[p] = u64::read(state, 4 * (40 * p + j));
+    for (p, w) in r.iter_mut().enumerate() {
+        *w = u64::read(state, 4 * (40 * p + j));
     }
     r
 }
@@ -41,8 +41,8 @@ fn row(state: &[u8; 5120], p: Peer) -> [u32; 32]
 {
     let i = p.0 as usize;
     let mut r = [0u32; 32];
-    for t in 0..32 {
-        r[t] = u32::read(state, 4 * (40 * i + (8 + t)));
+    for (t, w) in r.iter_mut().enumerate() {
+        *w = u32::read(state, 4 * (40 * i + (8 + t)));
     }
     r
 }
@@ -54,8 +54,8 @@ fn put_row(known: &mut [u32; 1024], p: Peer, row: [u32; 32])
     ensures { RowStored 32 p.0 row known.old known.new }
 {
     let i = p.0 as usize;
-    for t in 0..32 {
-        known[32 * i + t] = row[t];
+    for (t, w) in row.iter().enumerate() {
+        known[32 * i + t] = *w;
     }
 }
 

@@ -14,8 +14,8 @@ pub(crate) fn words(table: &[u8; 256]) -> [u32; 64]
     ensures { result ≡ tab 64 (row_word table.now) }
 {
     let mut x = [0u32; 64];
-    for r in 0..64 {
-        x[r] = u32::read(table, 4 * r);
+    for (r, w) in x.iter_mut().enumerate() {
+        *w = u32::read(table, 4 * r);
     }
     x
 }
@@ -37,8 +37,8 @@ fn all_right(words: &[u32; 64]) -> bool
     ensures { result ≡ all 64 (λ (r : ℕ). word_right (get_or words.now r 0)) }
 {
     let mut ok = true;
-    for r in 0..64 {
-        if !right(words[r]) {
+    for w in words {
+        if !right(*w) {
             ok = false;
         }
     }
@@ -53,8 +53,8 @@ pub(crate) fn bad(words: &[u32; 64]) -> Option<usize>
     if all_right(words) {
         return None;
     }
-    for r in 0..64 {
-        if !right(words[r]) {
+    for (r, w) in words.iter().enumerate() {
+        if !right(*w) {
             return Some(r);
         }
     }

@@ -16,8 +16,8 @@ pub(crate) fn ones(heads: &[u32; 32]) -> u32
     ensures { result ≡ set_of 32 (λ (p : ℕ). eqb (get_or heads.now p 0 % 256) 1) }
 {
     let mut r: u32 = 0;
-    for p in 0..32 {
-        if heads[p] % 256 == 1 {
+    for (p, head) in heads.iter().enumerate() {
+        if *head % 256 == 1 {
             r = r.with(p as u32);
         }
     }

@@ -19,7 +19,6 @@ fn head(n: &Network, p: Peer) -> u32
 }
 
 // The first words of all records: 1 at each member of `present`, 0 elsewhere.
-#[tactic(auto, using(lists::specs::laws::Visit::visiting_none, sets::proofs::laws::Sizes::size_less))]
 pub(crate) fn heads(present: u32) -> [u32; 32]
     ensures { result ≡ tab 32 (λ (p : ℕ). digit (has present p)) }
 {
@@ -54,8 +53,8 @@ pub(crate) fn row_of(known: &[u32; 1024], p: Peer) -> [u32; 32]
 {
     let base = p.0 as usize * 32;
     let mut r = [0u32; 32];
-    for t in 0..32 {
-        r[t] = known[base + t];
+    for (t, w) in r.iter_mut().enumerate() {
+        *w = known[base + t];
     }
     r
 }
@@ -67,7 +66,7 @@ pub(crate) fn row(state: &mut [u8], row: [u32; 32], p: Peer)
     ensures { state.new ≡ put_row 32 state.old row p.0 }
 {
     let i = p.0 as usize;
-    for t in 0..32 {
-        row[t].put(&mut *state, 160 * i + 32 + 4 * t);
+    for (t, w) in row.iter().enumerate() {
+        (*w).put(&mut *state, 160 * i + 32 + 4 * t);
     }
 }

@@ -5,4 +5,4 @@ use Rattle.network.specs.State.{long_in}
 use Rattle.network.proofs.load.longs.Given as goal
 
 abbrev pub invariant-loop-p : goal.invariant-loop-p
-invariant-loop-p l = Filled 32 (λ (q : ℕ). long_in l.state q l.j) l.p l.r
+invariant-loop-p l = Filled 32 (λ (q : ℕ). long_in l.state q l.j) l.p l.w-items

@@ -5,4 +5,4 @@ use Rattle.network.specs.Layout.{RowStored}
 use Rattle.network.proofs.load.put_row.Given as goal
 
 abbrev pub invariant-loop-t : goal.invariant-loop-t
-invariant-loop-t l = ((length l.known ≡ 1024) × RowStored l.t l.i l.row l.initial.known l.known)
+invariant-loop-t l = ((length l.known ≡ 1024) × RowStored l.t l.i l.w-items l.initial.known l.known)

@@ -5,4 +5,4 @@ use Rattle.network.specs.State.{word_in}
 use Rattle.network.proofs.load.row.Given as goal
 
 abbrev pub invariant-loop-t : goal.invariant-loop-t
-invariant-loop-t l = Filled 32 (λ (u : ℕ). word_in l.state l.i (8 + u)) l.t l.r
+invariant-loop-t l = Filled 32 (λ (u : ℕ). word_in l.state l.i (8 + u)) l.t l.w-items

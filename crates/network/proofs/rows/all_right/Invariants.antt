@@ -6,5 +6,5 @@ use Rattle.sets.specs.Any.{all}
 use Rattle.network.specs.RowWords.{word_right}
 use Rattle.network.proofs.rows.all_right.Given as goal
 
-abbrev pub invariant-loop-r : goal.invariant-loop-r
-invariant-loop-r l = (l.ok ≡ all l.r (λ (i : ℕ). word_right (get_or l.words i 0)))
+abbrev pub invariant-loop-w : goal.invariant-loop-w
+invariant-loop-w l = (l.ok ≡ all l.w-index (λ (i : ℕ). word_right (get_or l.words i 0)))

@@ -5,4 +5,4 @@ use Rattle.network.specs.Storing.{put_row}
 use Rattle.network.proofs.store.row.Given as goal
 
 abbrev pub invariant-loop-t : goal.invariant-loop-t
-invariant-loop-t l = ((length l.state ≡ 5120) × (l.state ≡ put_row l.t l.initial.state l.row l.i))
+invariant-loop-t l = ((length l.state ≡ 5120) × (l.state ≡ put_row l.t l.initial.state l.w-items l.i))

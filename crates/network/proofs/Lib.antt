@@ -1,4 +1,5 @@
 pub mod Gathering
 pub mod ListingBack
 pub mod RowWords
+pub mod Steps
 pub mod Tests

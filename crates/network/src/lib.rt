@@ -183,7 +183,7 @@ impl Network {
     }
 
     // Writes the network's bytes.
-    #[tactic(auto, using(lists::specs::laws::Tab::filled_none, crate::specs::laws::Storing::filled_record, crate::specs::laws::Layout::filled_end), unfolding(crate::specs::State::bytes_of))]
+    #[tactic(auto, using(crate::proofs::Steps::filling, crate::specs::laws::Storing::filled_record), unfolding(crate::specs::State::bytes_of))]
     pub fn save(&self, state: &mut [u8])
         requires { length state.old ≡ 5120 }
         ensures { state.new ≡ bytes_of self.now }
@@ -237,7 +237,7 @@ impl Table {
     }
 
     // Reads the table that the rows say. Refused by 2, then by 4 with the lowest bad row; a refused read leaves a table of zeros.
-    #[tactic(auto, using(crate::specs::laws::Listing::list_2, crate::specs::laws::Listing::list_4, crate::specs::laws::Listing::list_0, crate::proofs::RowWords::bad_is, crate::proofs::RowWords::table_is))]
+    #[tactic(auto, using(crate::proofs::Steps::listing))]
     pub fn read(&mut self, rows: &[u8]) -> Result<(), Refused>
         ensures table { listed_as result self.new ≡ list_of rows.now }
         ensures detail { (checked_as result).detail ≡ 0 }

@@ -8,7 +8,7 @@ use endian::Little;
 use crate::Peer;
 
 // Word j of each record.
-#[tactic(auto, using(lists::specs::laws::Tab::filled_more, crate::specs::laws::Layout::filled_end), unfolding(crate::specs::State::word))]
+#[tactic(auto, using(crate::proofs::Steps::filling), unfolding(crate::specs::State::word))]
 pub(crate) fn words(state: &[u8; 5120], j: usize) -> [u32; 32]
     requires { j < 40 }
     ensures { result ≡ tab 32 (λ (p : ℕ). word_in state.now p j) }
@@ -21,7 +21,7 @@ pub(crate) fn words(state: &[u8; 5120], j: usize) -> [u32; 32]
 }
 
 // The 8-byte number at words j and j + 1 of each record.
-#[tactic(auto, using(lists::specs::laws::Tab::filled_more, crate::specs::laws::Layout::filled_end), unfolding(crate::specs::State::long))]
+#[tactic(auto, using(crate::proofs::Steps::filling), unfolding(crate::specs::State::long))]
 pub(crate) fn longs(state: &[u8; 5120], j: usize) -> [u64; 32]
     requires { j < 39 }
     ensures { result ≡ tab 32 (λ (p : ℕ). long_in state.now p j) }
@@ -34,7 +34,7 @@ pub(crate) fn longs(state: &[u8; 5120], j: usize) -> [u64; 32]
 }
 
 // The known subscribers of record p.
-#[tactic(auto, using(lists::specs::laws::Tab::filled_more, crate::specs::laws::Layout::filled_end), unfolding(crate::specs::State::word))]
+#[tactic(auto, using(crate::proofs::Steps::filling), unfolding(crate::specs::State::word))]
 fn row(state: &[u8; 5120], p: Peer) -> [u32; 32]
     requires { p.0 < 32 }
     ensures { result ≡ tab 32 (λ (t : ℕ). word_in state.now p.0 (8 + t)) }
@@ -48,7 +48,7 @@ fn row(state: &[u8; 5120], p: Peer) -> [u32; 32]
 }
 
 // Stores row p, the rows before it being there. The row is passed by value, so that the compiler sees that it is not part of `known`.
-#[tactic(auto, using(crate::specs::laws::Layout::stored_none, crate::specs::laws::Layout::stored_more))]
+#[tactic(auto, using(crate::proofs::Steps::storing))]
 fn put_row(known: &mut [u32; 1024], p: Peer, row: [u32; 32])
     requires { p.0 < 32 }
     ensures { RowStored 32 p.0 row known.old known.new }
@@ -60,7 +60,7 @@ fn put_row(known: &mut [u32; 1024], p: Peer, row: [u32; 32])
 }
 
 // Reads the known subscribers of all records into a lent array.
-#[tactic(auto, using(lists::specs::laws::Tab::filled_none, crate::specs::laws::Layout::filled_end))]
+#[tactic(auto, using(crate::proofs::Steps::filling))]
 pub(crate) fn fill_known(state: &[u8; 5120], known: &mut [u32; 1024])
     ensures { known.new ≡ tab 1024 (known_in state.now) }
 {

@@ -9,7 +9,7 @@ use endian::Little;
 use crate::Table;
 
 // The number of each row.
-#[tactic(auto, using(lists::specs::laws::Tab::filled_more, crate::specs::laws::Layout::filled_end), unfolding(crate::specs::RowWords::row_word))]
+#[tactic(auto, using(crate::proofs::Steps::filling), unfolding(crate::specs::RowWords::row_word))]
 pub(crate) fn words(table: &[u8; 256]) -> [u32; 64]
     ensures { result ≡ tab 64 (row_word table.now) }
 {
@@ -32,7 +32,7 @@ fn right(w: u32) -> bool
 }
 
 // All rows are right. Every row is asked, so that the compiler can ask many at once.
-#[tactic(auto, using(sets::proofs::laws::Any::all_start, sets::proofs::laws::Any::all_more))]
+#[tactic(auto, using(crate::proofs::Steps::asking))]
 fn all_right(words: &[u32; 64]) -> bool
     ensures { result ≡ all 64 (λ (r : ℕ). word_right (get_or words.now r 0)) }
 {
@@ -46,7 +46,7 @@ fn all_right(words: &[u32; 64]) -> bool
 }
 
 // The lowest row that is not right.
-#[tactic(auto, using(sets::proofs::laws::Least::lowest_of_start, sets::proofs::laws::Least::lowest_of_on), unfolding(crate::specs::RowWords::bad_word))]
+#[tactic(auto, using(crate::proofs::Steps::looking), unfolding(crate::specs::RowWords::bad_word))]
 pub(crate) fn bad(words: &[u32; 64]) -> Option<usize>
     ensures { Found 64 result (bad_word words.now) }
 {
@@ -62,7 +62,7 @@ pub(crate) fn bad(words: &[u32; 64]) -> Option<usize>
 }
 
 // The topics and the origins.
-#[tactic(auto, using(lists::specs::laws::Tab::filled_more, crate::specs::laws::Layout::filled_end), unfolding(crate::specs::RowWords::words_table))]
+#[tactic(auto, using(crate::proofs::Steps::filling), unfolding(crate::specs::RowWords::words_table))]
 pub(crate) fn columns(words: &[u32; 64]) -> Table
     ensures { result ≡ words_table words.now }
 {

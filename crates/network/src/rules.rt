@@ -47,7 +47,7 @@ pub(crate) fn subscribers(subs: &[u32; 32]) -> [u32; 32]
 }
 
 // The row of p has no known subscribers.
-#[tactic(auto, using(sets::proofs::laws::Any::all_start, sets::proofs::laws::Any::all_more), unfolding(crate::specs::Tests::row_empty))]
+#[tactic(auto, using(crate::proofs::Steps::asking), unfolding(crate::specs::Tests::row_empty))]
 fn row_empty(known: &[u32; 1024], p: Peer) -> bool
     requires { p.0 < 32 }
     ensures { result ≡ row_empty known.now p }
@@ -84,7 +84,7 @@ pub(crate) fn list_back(neighbours: &[u32; 32], listed: u32, p: Peer) -> Option<
 }
 
 // The row of p has, for each topic, the subscribers among the peers listed. Every topic is asked, so that the compiler can ask many at once.
-#[tactic(auto, using(sets::proofs::laws::Any::all_start, sets::proofs::laws::Any::all_more))]
+#[tactic(auto, using(crate::proofs::Steps::asking))]
 fn row_same(known: &[u32; 1024], subscribers: &[u32; 32], listed: u32, p: Peer) -> bool
     requires { p.0 < 32 }
     ensures { result ≡ all 32 (same_at known.now subscribers.now listed p) }
@@ -101,7 +101,7 @@ fn row_same(known: &[u32; 1024], subscribers: &[u32; 32], listed: u32, p: Peer) 
 
 // The lowest topic for which the row of p has other subscribers than those among the peers listed. It is for the detail alone: a test of
 // the rule asks `row_same`, since the search, inlined, spoils the comparison by vectors.
-#[tactic(auto, using(sets::proofs::laws::Least::lowest_of_start, sets::proofs::laws::Least::lowest_of_on), unfolding(crate::specs::Tests::row_known))]
+#[tactic(auto, using(crate::proofs::Steps::looking), unfolding(crate::specs::Tests::row_known))]
 pub(crate) fn row_known(
     known: &[u32; 1024],
     subscribers: &[u32; 32],
@@ -150,7 +150,7 @@ fn absent_fault(n: &Network, p: Peer) -> Result<(), Refusal>
 }
 
 // The fault of a present record, `subscribers` being the peers subscribed to each topic.
-#[tactic(auto, using(crate::proofs::Tests::own_kept, crate::proofs::Tests::near_kept, crate::proofs::Tests::near_broken, crate::proofs::Tests::back_kept, crate::proofs::Tests::back_broken, crate::proofs::Tests::known_tested, crate::specs::laws::Faults::fault_22, crate::specs::laws::Faults::fault_23, crate::specs::laws::Faults::fault_24, crate::specs::laws::Faults::fault_25, crate::specs::laws::Faults::fault_26, crate::specs::laws::Faults::fault_none), unfolding(crate::specs::Rules::own_right, crate::specs::Rules::apart_right))]
+#[tactic(auto, using(crate::proofs::Steps::testing), unfolding(crate::specs::Rules::own_right, crate::specs::Rules::apart_right))]
 fn present_fault(n: &Network, p: Peer, subscribers: &[u32; 32]) -> Result<(), Refusal>
     requires { (p.0 < 32) × (subscribers.now ≡ subscribers_of n.now.subs) }
     ensures { number result ≡ present_fault n.now p }

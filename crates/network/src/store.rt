@@ -46,7 +46,7 @@ pub(crate) fn words(state: &mut [u8], n: &Network, p: Peer)
 }
 
 // The known subscribers of p.
-#[tactic(auto, using(lists::specs::laws::Tab::filled_more, crate::specs::laws::Layout::filled_end))]
+#[tactic(auto, using(crate::proofs::Steps::filling))]
 pub(crate) fn row_of(known: &[u32; 1024], p: Peer) -> [u32; 32]
     requires { p.0 < 32 }
     ensures { result ≡ tab 32 (λ (t : ℕ). get_or known.now (spot p (topic t)) 0) }

@@ -25,7 +25,7 @@ fn detail(n: &Network, refusal: Refusal, p: Peer, subscribers: &[u32; 32]) -> u8
 }
 
 // The verdict: the lowest record that breaks a rule, the first rule that it breaks, and the detail.
-#[tactic(auto, using(crate::specs::laws::Faults::verdict_none, crate::specs::laws::Faults::clean_more, crate::specs::laws::RuleLaws::detail_lt))]
+#[tactic(auto, using(crate::proofs::Steps::judging))]
 pub(crate) fn verdict(n: &Network, heads: &[u32; 32]) -> Result<(), Refused>
     ensures { checked_as result ≡ verdict_by (λ (p : ℕ). get_or heads.now p 0) n.now }
 {

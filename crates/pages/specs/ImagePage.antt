@@ -3,14 +3,12 @@
 -- How to read it: `x ≡ y`: x is y; `×`: and, or, with a name in front, there is; `→`: then. The network that the record at place i meets is
 -- `reached ev b n i` (specs/RunPage.antt); `image` is the commitment map (broadcastnet's specs/Commit.antt), `Row` document 01's image table and
 -- `Step` Broadcastnet's step (its specs/Page.antt and Broadcast.antt). Assumes nothing.
-use Rattle.std.specs.Prelude.{◌≡◌, List, ℕ, suc, ◌<◌, length}
+use Rattle.std.specs.Prelude.{◌≡◌, List, ℕ, suc, ◌<◌, length, Some, Ok}
 use Rattle.network.specs.declared.Network.{Network}
 use Rattle.network.specs.declared.Table.{Table}
 use Rattle.network.specs.Rules.{checked}
 use Rattle.network.specs.State.{open_of, opened, bytes_of}
 use Rattle.events.specs.declared.Event.{Event}
-use Rattle.events.specs.declared.Read.TheVariants.{Taken}
-use Rattle.events.specs.Event.{read_at}
 use Rattle.broadcastnet.specs.Broadcast.{Step}
 use Rattle.broadcastnet.specs.Commit.{image, image_net}
 use Rattle.broadcastnet.specs.Page.{Row}
@@ -19,6 +17,7 @@ use Rattle.engine.specs.declared.Answer.{Answer}
 use Rattle.engine.specs.Imaging.{image_answer_of, imaged_of}
 use Rattle.pages.specs.RunReached.{reached}
 use Rattle.pages.specs.RunPage.{net_in, table_in}
+use Rattle.events.specs.Event.{read_at}
 
 -- What `relay_image` makes of a state's bytes s that say the network n, with a second buffer of 5,120 bytes.
 pub record Imaged (s : List ℕ) (n : Network) : Type 0 where
@@ -32,11 +31,11 @@ pub record Imaged (s : List ℕ) (n : Network) : Type 0 where
 -- b: the table read; at i: the network that the record at place i meets
 pub record ImagesAlong (ev : List ℕ) (b : Table) (at : ℕ → Network) (accepted : ℕ) : Type 0 where
   -- each accepted record is an event
-  pub events : (i : ℕ) → i < accepted → (e : Event) × (read_at ev i ≡ Taken e)
+  pub events : (i : ℕ) → i < accepted → (e : Event) × (read_at ev i ≡ Some (Ok e))
   -- it does to the image what the table's row of that very event says
-  pub rows : (i : ℕ) → i < accepted → (e : Event) → read_at ev i ≡ Taken e → Row (at i) (at (suc i)) e
+  pub rows : (i : ℕ) → i < accepted → (e : Event) → read_at ev i ≡ Some (Ok e) → Row (at i) (at (suc i)) e
   -- "unchanged if the topics change nothing"
-  pub topics : (i : ℕ) → i < accepted → (e : Event) → read_at ev i ≡ Taken e → Unchanged (at i) (at (suc i)) e
+  pub topics : (i : ℕ) → i < accepted → (e : Event) → read_at ev i ≡ Some (Ok e) → Unchanged (at i) (at (suc i)) e
   -- so it is one step of Broadcastnet; no change is Broadcastnet's own skip
   pub steps : (i : ℕ) → i < accepted → Step b (image (at i)) (image (at (suc i)))
 

@@ -3,21 +3,20 @@
 -- these are the drain's, for every order (`same_bytes`). specs/laws/ReachPageLaws.antt proves it of what `relay_run` and `relay_forward` promise:
 -- `run_forwards`, `alone_forwards`; and that they refuse none that the page accepts: `run_accepts`, `alone_accepts`. specs/laws/ForwardBytes.antt:
 -- every list of accepted forwards has such records (`records_run`). Assumes nothing.
-use Rattle.std.specs.Prelude.{◌≡◌, List, [], ◌∷◌, ℕ, ◌+◌, ◌*◌, ◌≤◌, length}
+use Rattle.std.specs.Prelude.{◌≡◌, List, [], ◌∷◌, ℕ, ◌+◌, ◌*◌, ◌≤◌, length, Some, Ok}
 use Rattle.network.specs.declared.Network.{Network}
 use Rattle.network.specs.declared.Table.{Table}
 use Rattle.network.specs.State.{bytes_of, opened, open_of}
 use Rattle.events.specs.declared.Event.TheVariants as events
-use Rattle.events.specs.declared.Read.TheVariants.{Taken}
-use Rattle.events.specs.Event.{read_at}
 use Rattle.drain.specs.Reach.{Forward, by, after, Accepted, Quiet}
 use Rattle.engine.specs.Alone.{forward_of}
 use Rattle.engine.specs.Draining.{drain_end_of}
+use Rattle.events.specs.Event.{read_at}
 
 -- The records from `place` on are those of the forwards l, one by one; the event bytes are those of l, and no more.
 abbrev pub ForwardsAt : List ℕ → ℕ → List Forward → Type 0
 ForwardsAt ev place [] = Unit {0}
-ForwardsAt ev place (by p m ∷ l) = (read_at ev place ≡ Taken (events.Forward p m)) × ForwardsAt ev (place + 1) l
+ForwardsAt ev place (by p m ∷ l) = (read_at ev place ≡ Some (Ok (events.Forward p m))) × ForwardsAt ev (place + 1) l
 
 pub record ForwardRecords (ev : List ℕ) (l : List Forward) : Type 0 where
   pub long : length ev ≡ 16 * length l

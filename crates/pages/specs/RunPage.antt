@@ -2,7 +2,7 @@
 -- document 01's tally. `run_page` (specs/laws/RunPageLaws.antt) proves it of every outcome that satisfies what `relay_run` promises (`Ends .. (run_of ..)`).
 -- How to read it: `x ≡ y`: x is y; `x ≡ true`: x holds; `×`: and, or, with a name in front, there is; `⊎`: or; `↔`: exactly if; `→`: then;
 -- `→ ⊥`: never, or not. What follows a colon is what is claimed, and the line above it says it in words. Assumes nothing.
-use Rattle.std.specs.Prelude.{◌≡◌, ◌↔◌, List, ℕ, suc, ◌+◌, ◌*◌, ◌/◌, ◌≤◌, ◌<◌, length, take}
+use Rattle.std.specs.Prelude.{◌≡◌, ◌↔◌, List, ℕ, suc, ◌+◌, ◌*◌, ◌/◌, ◌≤◌, ◌<◌, length, take, Some, Ok, Err}
 use Rattle.sets.specs.Set.{count, size}
 use Rattle.sets.specs.Sums.{sum}
 use Rattle.network.specs.declared.Network.{Network}
@@ -11,9 +11,7 @@ use Rattle.network.specs.Sound.{Sound}
 use Rattle.network.specs.State.{open_of, opened}
 use Rattle.network.specs.Rows.{list_of}
 use Rattle.events.specs.declared.Event.{Event}
-use Rattle.events.specs.declared.Read.TheVariants.{Taken, Unknown, Unfit}
 use Rattle.events.specs.declared.kind.Kind.{Kind}
-use Rattle.events.specs.Event.{read_at}
 use Rattle.events.specs.Kind.{alike}
 use Rattle.floodnet.specs.Step.{refusal, effect, receivers_of}
 use Rattle.transitions.specs.Page.{FloodnetPage}
@@ -24,6 +22,8 @@ use Rattle.engine.specs.Start.{begin_of}
 use Rattle.engine.specs.Run.{answered, run_of}
 use Rattle.engine.specs.RunCounts.{kind_at}
 use Rattle.pages.specs.RunReached.{reached, turn_at}
+use Rattle.network.specs.declared.refusal.Refusal.TheVariants.{UnknownCode, Unfit}
+use Rattle.events.specs.Event.{read_at}
 
 -- The network that a state's bytes say, and the table that a table's bytes say.
 abbrev pub net_in : List ℕ → Network
@@ -75,12 +75,12 @@ pub record RunDone (s t ev : List ℕ) (old : Tally) (r : Answer) (s' : List ℕ
 -- What becomes of a record, in the network m that it meets: i is its place.
 pub record TurnPage (ev : List ℕ) (b : Table) (n : Network) (i : ℕ) (m : Network) : Type 0 where
   -- bytes that are no event are refused: by 6 for an unknown code, by 7 for a number out of range or an unused byte that is not zero
-  pub unknown : read_at ev i ≡ Unknown → (turn_at ev b n i).number ≡ 6
-  pub unfit : read_at ev i ≡ Unfit → (turn_at ev b n i).number ≡ 7
+  pub unknown : read_at ev i ≡ Some (Err UnknownCode) → (turn_at ev b n i).number ≡ 6
+  pub unfit : read_at ev i ≡ Some (Err Unfit) → (turn_at ev b n i).number ≡ 7
   -- an event is refused by the number of the first of its conditions that fails, 0 if none does (specs/Page.antt of the crate transitions)
-  pub event : (e : Event) → read_at ev i ≡ Taken e → (turn_at ev b n i).number ≡ refusal m b e
+  pub event : (e : Event) → read_at ev i ≡ Some (Ok e) → (turn_at ev b n i).number ≡ refusal m b e
   -- an accepted event does what its kind does, and its receivers are those of its kind (of a forward, specs/Receivers.antt of transitions)
-  pub does : (e : Event) → read_at ev i ≡ Taken e → refusal m b e ≡ 0 → (reached ev b n (suc i) ≡ effect m b e) × ((turn_at ev b n i).receivers ≡ receivers_of m b e)
+  pub does : (e : Event) → read_at ev i ≡ Some (Ok e) → refusal m b e ≡ 0 → (reached ev b n (suc i) ≡ effect m b e) × ((turn_at ev b n i).receivers ≡ receivers_of m b e)
 
 -- b, n: the table and the network that were read; every network on the way is sound, and one of which floodnet's page speaks
 pub record AlongPage (ev : List ℕ) (b : Table) (n : Network) : Type 0 where

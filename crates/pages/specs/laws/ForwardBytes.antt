@@ -14,9 +14,8 @@ use Rattle.network.specs.Network.{Rows}
 use Rattle.network.specs.Sound.{Sound}
 use Rattle.network.specs.laws.SoundLaws.{pending_peer, pending_message}
 use Rattle.events.specs.declared.Event.TheVariants as events
-use Rattle.events.specs.Event.{read_of, fields_at, decode_of, read_at}
+use Rattle.events.specs.Event.{fields_at, decode_of, read_of, read_at}
 use Rattle.events.specs.Writing.{record_of}
-use Rattle.events.specs.laws.ReadingLaws.{taken_inside}
 use Rattle.events.specs.laws.RoundTrip.{read_inside, record_length, read_record}
 use Rattle.drain.specs.Reach.{Forward, by, after, Accepted}
 use Rattle.drain.specs.laws.ReachWords.{accepted_pending}
@@ -29,6 +28,7 @@ use Rattle.engine.specs.laws.DrainingLaws.{begun_rows, begun_sound}
 use Rattle.engine.specs.laws.ForwardAlone.{forward_fits}
 use Rattle.pages.specs.ReachPage.{ForwardsAt, ForwardRecords, ForwardsLeave}
 use Rattle.pages.specs.laws.ReachPageLaws.{run_accepts, run_forwards}
+use Rattle.events.specs.laws.ReadingLaws.{taken_inside}
 
 unfoldable pub records_of : List Forward → List ℕ
 records_of [] = []

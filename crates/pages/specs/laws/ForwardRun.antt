@@ -9,7 +9,6 @@ use Rattle.network.specs.declared.Table.{Table}
 use Rattle.network.specs.Network.{peer, message}
 use Rattle.network.specs.State.{bytes_of}
 use Rattle.events.specs.declared.Event.{Event}
-use Rattle.events.specs.Event.{Read}
 use Rattle.events.specs.Writing.{record_of}
 use Rattle.events.specs.Fits.{EventFits}
 use Rattle.events.specs.laws.RoundTrip.{record_length, read_record}
@@ -18,13 +17,13 @@ use Rattle.floodnet.specs.Forward.{forwarded, receivers}
 use Rattle.events.specs.Kind.{kind_of}
 use Rattle.floodnet.specs.Step.{refusal, effect, if_accepted, after, receivers_of, turned, turned_of}
 use Rattle.engine.specs.declared.Tally.{Tally}
-use Rattle.engine.specs.declared.Begun.{Begun}
-use Rattle.engine.specs.Start.{begin_of}
+use Rattle.engine.specs.Start.{Beginning, begin_of}
 use Rattle.engine.specs.Run.{zero_tally, tallied_of, turn_of, Final, all_done, run_from, run_all, written, Ending, run_of}
 use Rattle.engine.specs.Alone.{forwarded_by, Forwards, no_forward, forward_on, forward_of}
 use Rattle.engine.specs.declared.Forwarded.{Forwarded}
 use Rattle.engine.specs.laws.ForwardAlone.{forward_event, forward_fits, forward_receivers}
 use Rattle.pages.specs.RunReached.{reached, turn_at}
+use Rattle.events.specs.Event.{Read}
 
 -- an accepted event, alone in its list
 pub run_one : (b : Table) (n : Network) (e : Event) → EventFits e → refusal n b e ≡ 0
@@ -45,7 +44,7 @@ pub forward_passed : (s t : List ℕ) (p m : ℕ) → (forward_of s t p m).answe
 unfolding forward_of forward_on
 forward_passed s t p m = go (eqb g.number 0) (ltb p 32 && ltb m 64) (eqb k 0) refl refl refl
   where
-    g : Begun
+    g : Beginning
     g = begin_of s t 0
 
     k : ℕ

@@ -1,5 +1,5 @@
 -- The images along a run, on bytes: the proof of specs/ImagePage.antt. Assumes nothing.
-use Rattle.std.specs.Prelude.{◌≡◌, refl, List, ℕ, suc, ◌/◌, ◌≤◌, ◌<◌, length}
+use Rattle.std.specs.Prelude.{◌≡◌, refl, List, ℕ, suc, ◌/◌, ◌≤◌, ◌<◌, length, Some, Ok, None, Err}
 use Rattle.std.proofs.Common.{sym, ap, subst, ◌∙◌, arith}
 use Rattle.endian.specs.laws.Le.{Bytes}
 use Rattle.network.specs.declared.Network.{Network}
@@ -12,11 +12,6 @@ use Rattle.network.specs.laws.Listing.{listed_rows}
 use Rattle.network.specs.laws.OpenedSound.{opened_sound}
 use Rattle.network.specs.laws.Trips.{write_read}
 use Rattle.events.specs.declared.Event.{Event}
-use Rattle.events.specs.Event.{Read}
-use Rattle.events.specs.declared.Read.TheVariants.{Taken, End, Unknown, Unfit}
-use Rattle.events.specs.Event.{read_at}
-use Rattle.events.specs.laws.ReadingLaws.{never_ended}
-use Rattle.events.specs.laws.RoundTrip.{read_fits}
 use Rattle.floodnet.specs.Step.{refusal, effect}
 use Rattle.broadcastnet.specs.Broadcast.{Step}
 use Rattle.broadcastnet.specs.Commit.{image, image_net}
@@ -34,8 +29,12 @@ use Rattle.pages.specs.RunReached.{reached, turn_at}
 use Rattle.pages.specs.laws.RunReached.{reached_sound}
 use Rattle.engine.specs.Imaging.{image_answer_of, imaged_of}
 use Rattle.pages.specs.RunPage.{net_in, table_in, RunDone}
-use Rattle.pages.specs.laws.RunPageLaws.{page_turn, run_page}
+use Rattle.pages.specs.laws.RunPageLaws.{turn_refused, page_turn, run_page}
 use Rattle.pages.specs.ImagePage.{Imaged, ImagesAlong, ImagePage}
+use Rattle.events.specs.Event.{Read, read_at}
+use Rattle.network.specs.laws.Refusal.{refusal_not_0}
+use Rattle.events.specs.laws.RoundTrip.{read_fits}
+use Rattle.events.specs.laws.ReadingLaws.{never_ended}
 
 -- ---- the image of a state's bytes
 
@@ -67,20 +66,19 @@ module _ (ev : List ℕ) (he : Bytes ev) (b : Table) (rows : Rows b) (n : Networ
 
   module _ (accepted : ℕ) (within : accepted ≤ length ev / 16) (each : (i : ℕ) → i < accepted → (turn_at ev b n i).number ≡ 0) where
     -- an accepted record is an event
-    is_event : (i : ℕ) → i < accepted → (e : Event) × (read_at ev i ≡ Taken e)
+    is_event : (i : ℕ) → i < accepted → (e : Event) × (read_at ev i ≡ Some (Ok e))
     is_event i l = first (read_at ev i) refl
       where
-        first : (r : Read) → read_at ev i ≡ r → (e : Event) × (read_at ev i ≡ Taken e)
-        first (Taken e) z = (e, z)
-        first End z = absurd (never_ended ev i (omega arith) z)
-        first Unknown z = absurd (omega (arith, each i l, (page_turn ev b n i).unknown z))
-        first Unfit z = absurd (omega (arith, each i l, (page_turn ev b n i).unfit z))
+        first : (r : Read) → read_at ev i ≡ r → (e : Event) × (read_at ev i ≡ Some (Ok e))
+        first (Some (Ok e)) z = (e, z)
+        first (Some (Err refusal)) z = absurd (refusal_not_0 refusal (sym (turn_refused ev b n i refusal z) ∙ each i l))
+        first None z = absurd (never_ended ev i (omega arith) z)
 
     -- that was accepted in the network it met, and had its effect there
-    accepts : (i : ℕ) → i < accepted → (e : Event) → read_at ev i ≡ Taken e → refusal (reached ev b n i) b e ≡ 0
+    accepts : (i : ℕ) → i < accepted → (e : Event) → read_at ev i ≡ Some (Ok e) → refusal (reached ev b n i) b e ≡ 0
     accepts i l e z = sym ((page_turn ev b n i).event e z) ∙ each i l
 
-    next : (i : ℕ) → i < accepted → (e : Event) → read_at ev i ≡ Taken e → effect (reached ev b n i) b e ≡ reached ev b n (suc i)
+    next : (i : ℕ) → i < accepted → (e : Event) → read_at ev i ≡ Some (Ok e) → effect (reached ev b n i) b e ≡ reached ev b n (suc i)
     next i l e z = sym ((page_turn ev b n i).does e z (accepts i l e z)).0
 
     pub images_along : ImagesAlong ev b (reached ev b n) accepted

@@ -1,5 +1,5 @@
 -- A run over forward records, and single forwards one after another, leave what the client's page says (specs/ReachPage.antt). Assumes nothing.
-use Rattle.std.specs.Prelude.{◌≡◌, refl, ℕ, suc, ◌+◌, ◌/◌, ◌%◌, ◌<◌, length}
+use Rattle.std.specs.Prelude.{◌≡◌, refl, ℕ, suc, ◌+◌, ◌/◌, ◌%◌, ◌<◌, length, Some, Ok}
 use Rattle.std.proofs.Common.{sym, subst, ◌∙◌, arith, lt-ltb}
 use Rattle.std.proofs.Math.Path.{ap}
 use mathlib.Core.List.{List, [], ◌∷◌}
@@ -17,9 +17,6 @@ use Rattle.network.specs.laws.SoundLaws.{pending_peer, pending_message}
 use Rattle.network.specs.laws.Listing.{listed_rows}
 use Rattle.network.specs.laws.Trips.{read_write, bytes_long, write_read}
 use Rattle.events.specs.declared.Event.TheVariants as events
-use Rattle.events.specs.Event.{Read}
-use Rattle.events.specs.declared.Read.TheVariants.{Taken}
-use Rattle.events.specs.Event.{read_at}
 use Rattle.floodnet.specs.Forward.{forwarded}
 use Rattle.floodnet.specs.Refusals.{refusal_forward}
 use Rattle.drain.specs.Reach.{Forward, by, after, Accepted, Quiet}
@@ -27,8 +24,7 @@ use Rattle.drain.specs.laws.ReachWords.{accepted_pending}
 use Rattle.drain.specs.laws.ReachLaws.{reach}
 use Rattle.engine.specs.declared.Answer.{Answer}
 use Rattle.engine.specs.declared.Tally.{Tally}
-use Rattle.engine.specs.declared.Begun.{Begun}
-use Rattle.engine.specs.Start.{begin_of}
+use Rattle.engine.specs.Start.{Beginning, begin_of}
 use Rattle.engine.specs.laws.StartFacts.{begin_by}
 use Rattle.engine.specs.Run.{zero_tally, turn_of, answered, Final, run_from, run_all, Ending, written, untouched, run_of}
 use Rattle.engine.specs.RunLaws.{outcome_at, tally_after}
@@ -40,6 +36,7 @@ use Rattle.engine.specs.declared.Drained.{Drained}
 use Rattle.engine.specs.laws.DrainingLaws.{begun_sound}
 use Rattle.pages.specs.laws.DrainingReach.{begun_reach, drain_page}
 use Rattle.pages.specs.ReachPage.{ForwardsAt, ForwardRecords, forwards_of, AllPass, ForwardsLeave}
+use Rattle.events.specs.Event.{Read, read_at}
 
 -- ---- what the bytes after accepted forwards are
 
@@ -74,16 +71,16 @@ done count = answered 0 0 0 count
 
 module _ (ev : List ℕ) (b : Table) where
   -- one forward: the number that it is answered with, and the network after it
-  one_number : (place : ℕ) (n : Network) (p : Peer) (m : Message) → read_at ev place ≡ Taken (events.Forward p m) → (outcome_at ev place b n).turned.number ≡ refusal_forward n p m
+  one_number : (place : ℕ) (n : Network) (p : Peer) (m : Message) → read_at ev place ≡ Some (Ok (events.Forward p m)) → (outcome_at ev place b n).turned.number ≡ refusal_forward n p m
   unfolding turn_of
   one_number place n p m e = ap (λ (r : Read). (turn_of b n r).turned.number) e ∙ forward_number n b p.0 m.0
 
-  one_after : (place : ℕ) (n : Network) (p : Peer) (m : Message) → read_at ev place ≡ Taken (events.Forward p m) → refusal_forward n p m ≡ 0 → (outcome_at ev place b n).network ≡ forwarded n b p m
+  one_after : (place : ℕ) (n : Network) (p : Peer) (m : Message) → read_at ev place ≡ Some (Ok (events.Forward p m)) → refusal_forward n p m ≡ 0 → (outcome_at ev place b n).network ≡ forwarded n b p m
   unfolding turn_of
   one_after place n p m e z = ap (λ (r : Read). (turn_of b n r).network) e ∙ forward_after n b p.0 m.0 z
 
   -- an accepted forward, and then the rest
-  passes : (k place : ℕ) (n : Network) (t : Tally) (p : Peer) (m : Message) → read_at ev place ≡ Taken (events.Forward p m) → refusal_forward n p m ≡ 0
+  passes : (k place : ℕ) (n : Network) (t : Tally) (p : Peer) (m : Message) → read_at ev place ≡ Some (Ok (events.Forward p m)) → refusal_forward n p m ≡ 0
       → run_from (suc k) ev place b n t ≡ run_from k ev (place + 1) b (forwarded n b p m) (tally_after (outcome_at ev place b n) t)
   passes k place n t p m r e =
       run_on k ev place b n t (one_number place n p m r ∙ e) ∙ ap (λ (o : Network). run_from k ev (place + 1) b o (tally_after (outcome_at ev place b n) t)) (one_after place n p m r e)
@@ -167,7 +164,7 @@ read_both : (s t : List ℕ) → (begin_of s t 0).number ≡ 0
     → (length t ≡ 256) × ((list_of t).number ≡ 0) × ((open_of s).number ≡ 0) × (begin_of s t 0 ≡ record { number = 0; place = 0; detail = 0; network = (open_of s).network; table = (list_of t).table })
 read_both s t =
     begin_by s t 0
-    (λ (g : Begun). g.number ≡ 0 → (length t ≡ 256) × ((list_of t).number ≡ 0) × ((open_of s).number ≡ 0) × (g ≡ record { number = 0; place = 0; detail = 0; network = (open_of s).network; table = (list_of t).table }))
+    (λ (g : Beginning). g.number ≡ 0 → (length t ≡ 256) × ((list_of t).number ≡ 0) × ((open_of s).number ≡ 0) × (g ≡ record { number = 0; place = 0; detail = 0; network = (open_of s).network; table = (list_of t).table }))
     (λ k p d h z. absurd (h z))
     λ a b c d z. (b, c, d, refl)
 
@@ -202,7 +199,7 @@ module _ (t : List ℕ) (e : length t ≡ 256) (f : (list_of t).number ≡ 0) wh
   pass (by p m ∷ l) n s a =
       let g = reads_back s in
       let w = accepted_pending n p m a.0 in
-      let x = alone_passes (bytes_of n) t p m (ap (λ (y : Begun). y.number) g) (pending_peer s.shaped p m w) (pending_message s.shaped p m w) (rw g a.0) in
+      let x = alone_passes (bytes_of n) t p m (ap (λ (y : Beginning). y.number) g) (pending_peer s.shaped p m w) (pending_message s.shaped p m w) (rw g a.0) in
       let state : (forward_of (bytes_of n) t p.0 m.0).state ≡ bytes_of (forwarded n (list_of t).table p m) = rw g at (forward_passed (bytes_of n) t p.0 m.0 x).state in
       (x, rw state (pass l (forwarded n (list_of t).table p m) ((reach s (listed_rows t)).stays_sound (by p m ∷ []) (a.0, tt)) a.1))
 
@@ -211,7 +208,7 @@ pub alone_accepts : (s t : List ℕ) → Bytes s → (begin_of s t 0).number ≡
 alone_accepts s t h z l a =
     let x = read_both s t z in
     let sound : Sound (open_of s).network = rw x.3 at (begun_sound s t h) in
-    rw (read_write s h x.2) at (pass t x.0 x.1 l (open_of s).network sound (subst (λ (g : Begun). Accepted g.table g.network l) x.3 a))
+    rw (read_write s h x.2) at (pass t x.0 x.1 l (open_of s).network sound (subst (λ (g : Beginning). Accepted g.table g.network l) x.3 a))
 
 -- THE SINGLE FORWARDS: where none is refused, they leave what the page says.
 pub alone_forwards : (s t : List ℕ) → Bytes s → (begin_of s t 0).number ≡ 0 → (l : List Forward) → AllPass s t l
@@ -221,8 +218,8 @@ alone_forwards s t h z l a =
     let back : bytes_of (open_of s).network ≡ s = read_write s h x.2 in
     let sound : Sound (open_of s).network = rw x.3 at (begun_sound s t h) in
     let y = one_by_one t x.0 x.1 l (open_of s).network sound (rw back a) in
-    left s t h z l (forwards_of s t l) (subst (λ (g : Begun). Accepted g.table g.network l) (sym x.3) y.0)
-    (subst (λ (g : Begun). forwards_of s t l ≡ bytes_of (after g.table g.network l)) (sym x.3) (rw back at y.1))
+    left s t h z l (forwards_of s t l) (subst (λ (g : Beginning). Accepted g.table g.network l) (sym x.3) y.0)
+    (subst (λ (g : Beginning). forwards_of s t l ≡ bytes_of (after g.table g.network l)) (sym x.3) (rw back at y.1))
 
 -- ---- every order
 

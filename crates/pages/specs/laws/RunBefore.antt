@@ -5,7 +5,7 @@ use Rattle.std.proofs.Common.{sym, ap, ◌∙◌, arith, get_or-take, length-tak
 use Rattle.endian.specs.laws.Le.{le_same}
 use Rattle.network.specs.declared.Network.{Network}
 use Rattle.network.specs.declared.Table.{Table}
-use Rattle.events.specs.Event.{read_of, read_at, fields_at, decode_of}
+use Rattle.events.specs.Event.{fields_at, decode_of, read_of, read_at}
 use Rattle.events.specs.laws.RoundTrip.{read_inside}
 use Rattle.engine.specs.declared.Tally.{Tally}
 use Rattle.engine.specs.Run.{zero_tally, Final, stops_at, all_done, run_from, run_all}

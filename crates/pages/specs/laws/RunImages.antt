@@ -1,7 +1,7 @@
 -- Demand 2 over a run: "Seen through the commitment map, it is one Broadcastnet step or no change". The events that a run takes are a list
 -- of accepted events in the sense of broadcastnet's page, and the network it ends in is theirs; so the images of the states along a run are
 -- a computation of Broadcastnet. Assumes nothing.
-use Rattle.std.specs.Prelude.{◌≡◌, Bool, true, false, cond, eqb, length}
+use Rattle.std.specs.Prelude.{◌≡◌, Bool, true, false, cond, eqb, length, Some, Ok, None, Err}
 use Rattle.std.proofs.Math.Path.{refl, subst}
 use mathlib.Core.List.{List, [], ◌∷◌}
 use Prim.Native.Nat.{ℕ, zero, suc, ◌+◌, ◌/◌}
@@ -12,9 +12,6 @@ use Rattle.network.specs.declared.Table.{Table}
 use Rattle.network.specs.Network.{Rows}
 use Rattle.network.specs.Sound.{Sound}
 use Rattle.events.specs.declared.Event.{Event}
-use Rattle.events.specs.Event.{Read}
-use Rattle.events.specs.declared.Read.TheVariants.{Taken, End, Unknown, Unfit}
-use Rattle.events.specs.Event.{read_at}
 use Rattle.events.specs.Kind.{kind_of}
 use Rattle.floodnet.specs.Step.{refusal, effect, if_accepted, after, receivers_of, turned, turned_of}
 use Rattle.broadcastnet.specs.Commit.{image}
@@ -24,13 +21,13 @@ use Rattle.engine.specs.declared.Tally.{Tally}
 use Rattle.engine.specs.Run.{zero_tally, turn_of, Final, stops_at, run_from, run_all, ReadFits}
 use Rattle.engine.specs.RunLaws.{outcome_at, tally_after}
 use Rattle.engine.specs.laws.RunSound.{reads_fit}
+use Rattle.events.specs.Event.{Read, read_at}
 
 -- an event that was read, before the later ones
 unfoldable pub before : Read → List Event → List Event
-before (Taken e) l = e ∷ l
-before End l = l
-before Unknown l = l
-before Unfit l = l
+before (Some (Ok e)) l = e ∷ l
+before (Some (Err refusal)) l = l
+before None l = l
 
 -- the events that a run of k records from `place` takes: those before the first refusal
 unfoldable pub taken_from : ℕ → List ℕ → ℕ → Table → Network → List Event
@@ -42,15 +39,14 @@ taken_from (suc k) ev place b n =
 one_more : (b : Table) (n : Network) (r : Read) → ReadFits r → (turn_of b n r).turned.number ≡ 0 → (l : List Event) (m : Network)
     → Accepted (turn_of b n r).network b l × (effects (turn_of b n r).network b l ≡ m) → Accepted n b (before r l) × (effects n b (before r l) ≡ m)
 unfolding before ReadFits turn_of turned_of turned after if_accepted Accepted effects
-one_more b n (Taken e) f h l m x = first (refusal n b e) refl h x
+one_more b n (Some (Ok e)) f h l m x = first (refusal n b e) refl h x
   where
     first : (k : ℕ) → refusal n b e ≡ k → (turned k (kind_of e) (receivers_of n b e)).number ≡ 0
         → Accepted (if_accepted k (effect n b e) n) b l × (effects (if_accepted k (effect n b e) n) b l ≡ m) → Accepted n b (e ∷ l) × (effects n b (e ∷ l) ≡ m)
     first zero z i y = ((f, z, y.0), y.1)
     first (suc k) z i y = absurd (omega arith)
-one_more b n End f h l m x = x
-one_more b n Unknown f h l m x = x
-one_more b n Unfit f h l m x = x
+one_more b n (Some (Err refusal)) f h l m x = x
+one_more b n None f h l m x = x
 
 module _ (ev : List ℕ) (bytes : Bytes ev) (b : Table) where
   pub run_takes : (k place : ℕ) (n : Network) (t : Tally)

@@ -1,5 +1,5 @@
 -- What `relay_run` promises meets the client's page of a run (specs/RunPage.antt). Assumes nothing.
-use Rattle.std.specs.Prelude.{◌≡◌, refl, List, ℕ, ◌+◌, ◌*◌, ◌-◌, ◌/◌, ◌≤◌, eqb, take}
+use Rattle.std.specs.Prelude.{◌≡◌, refl, List, ℕ, ◌+◌, ◌*◌, ◌-◌, ◌/◌, ◌≤◌, eqb, take, Some, Ok, Err}
 use Rattle.std.proofs.Common.{sym, ◌∙◌, arith, eqb-true}
 use Rattle.std.proofs.Math.Path.{ap}
 use Rattle.std.proofs.Math.Logic.{⊎_elim}
@@ -19,10 +19,7 @@ use Rattle.network.specs.laws.Listing.{listed_rows}
 use Rattle.network.specs.laws.OpenedSound.{opened_sound}
 use Rattle.network.specs.laws.Trips.{write_read}
 use Rattle.events.specs.declared.Event.{Event}
-use Rattle.events.specs.Event.{Read}
-use Rattle.events.specs.declared.Read.TheVariants.{Taken}
 use Rattle.events.specs.declared.kind.Kind.{Kind}
-use Rattle.events.specs.Event.{reading_of}
 use Rattle.events.specs.Kind.{kind_of, alike}
 use Rattle.floodnet.specs.laws.StepLaws.{turned_number}
 use Rattle.floodnet.specs.Step.{refusal, effect, if_accepted, after, receivers_of, turned, turned_of}
@@ -38,15 +35,23 @@ use Rattle.engine.specs.RunCounts.{kind_at}
 use Rattle.engine.specs.laws.RunCounts.{kinds, Counts, run_counts}
 use Rattle.engine.specs.laws.RunSound.{Keeps, run_keeps}
 use Rattle.pages.specs.laws.RunBefore.{refused_after}
-use Rattle.pages.specs.RunReached.{reached}
+use Rattle.pages.specs.RunReached.{reached, turn_at}
 use Rattle.pages.specs.laws.RunReached.{Along, run_along, reached_sound}
 use Rattle.pages.specs.RunPage.{net_in, table_in, RunRefused, RunDone, TurnPage, AlongPage, RunPage}
+use Rattle.network.specs.declared.refusal.Refusal.{Refusal}
+use Rattle.network.specs.Refusal.{number_of}
+use Rattle.events.specs.Event.{Read, read_at, reading_of}
 
 -- the record at a place
 done_accepted : (b : Table) (m : Network) (e : Event) → refusal m b e ≡ 0
-    → ((turn_of b m (Taken e)).network ≡ effect m b e) × ((turn_of b m (Taken e)).turned.receivers ≡ receivers_of m b e)
+    → ((turn_of b m (Some (Ok e))).network ≡ effect m b e) × ((turn_of b m (Some (Ok e))).turned.receivers ≡ receivers_of m b e)
 unfolding turn_of turned_of turned after if_accepted
 done_accepted b m e h = (rw h, rw h)
+
+-- a record that is not an event is refused by its number
+pub turn_refused : (ev : List ℕ) (b : Table) (n : Network) (i : ℕ) (refusal : Refusal) → read_at ev i ≡ Some (Err refusal) → (turn_at ev b n i).number ≡ number_of refusal
+unfolding turn_of
+turn_refused ev b n i refusal z = ap (λ (r : Read). (turn_of b (reached ev b n i) r).turned.number) z
 
 pub page_turn : (ev : List ℕ) (b : Table) (n : Network) (i : ℕ) → TurnPage ev b n i (reached ev b n i)
 unfolding reached turn_of turned_of reading_of

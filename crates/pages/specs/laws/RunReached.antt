@@ -7,7 +7,6 @@ use Rattle.sets.specs.Sums.{sum}
 use Rattle.sets.proofs.laws.Sums.{sum_start, sum_more}
 use Rattle.network.specs.declared.Network.{Network}
 use Rattle.network.specs.declared.Table.{Table}
-use Rattle.events.specs.Event.{read_at}
 use Rattle.engine.specs.declared.Tally.{Tally}
 use Rattle.engine.specs.Run.{zero_tally, Final, run_from, run_all}
 use Rattle.engine.specs.RunLaws.{outcome_at, tally_after}
@@ -18,6 +17,7 @@ use Rattle.endian.specs.laws.Le.{Bytes}
 use Rattle.network.specs.Network.{Rows}
 use Rattle.network.specs.Sound.{Sound}
 use Rattle.pages.specs.RunReached.{reached, turn_at}
+use Rattle.events.specs.Event.{read_at}
 
 -- What a run's end says of the records: each before the accepted count was accepted, the network is the one reached there, the
 -- deliveries are their receivers, and where it was refused the number is that of the record at its place.

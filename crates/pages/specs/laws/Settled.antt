@@ -5,8 +5,7 @@ use Rattle.events.specs.laws.Settled.{settled}
 use Rattle.engine.specs.declared.Tally.{Tally}
 use Rattle.engine.specs.declared.Answer.{Answer}
 use Rattle.engine.specs.declared.Drained.{Drained}
-use Rattle.engine.specs.declared.Ran.{Ran}
-use Rattle.engine.specs.Run.{Final, RunsTo, Ending, Ends}
+use Rattle.engine.specs.Run.{Ran, Final, RunsTo, Ending, Ends}
 use Rattle.engine.specs.laws.DrainingLaws.{Ended}
 
 -- `relay_run`, `run_core`: the answer, the state's bytes and the tally

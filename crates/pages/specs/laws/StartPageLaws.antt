@@ -15,8 +15,7 @@ use Rattle.network.specs.Rows.{row_right, bad_row, list_of}
 use Rattle.network.specs.laws.OpenedSound.{accepted}
 use Rattle.network.specs.Listing.{Right}
 use Rattle.network.specs.laws.Listing.{row_why, row_is, row_not, list_4, list_0}
-use Rattle.engine.specs.declared.Begun.{Begun}
-use Rattle.engine.specs.Start.{begin_of}
+use Rattle.engine.specs.Start.{Beginning, begin_of}
 use Rattle.engine.specs.Alone.{check_of}
 use Rattle.engine.specs.laws.StartLaws.{begin_1, begin_2, begin_3, begin_4, begin_unsound, begin_0}
 use Rattle.engine.specs.laws.StartFacts.{begin_by}
@@ -59,10 +58,10 @@ module _ (t : List ℕ) (long : length t ≡ 256) where
 
 module _ (s t : List ℕ) (events : ℕ) where
   -- what an entry point begins with is one of the page's ways
-  abbrev Begins : Begun → Type 0
+  abbrev Begins : Beginning → Type 0
   Begins g = Starts s t events g.number g.place g.detail
 
-  by : {g : Begun} → g ≡ begin_of s t events → Begins g → Begins (begin_of s t events)
+  by : {g : Beginning} → g ≡ begin_of s t events → Begins g → Begins (begin_of s t events)
   by e h = subst Begins e h
 
   -- the lengths and the rows are right: the state decides
@@ -98,8 +97,8 @@ module _ (s t : List ℕ) (events : ℕ) where
   abbrev Said : ℕ → ℕ → ℕ → Type 0
   Said number place detail = ((begin_of s t events).number ≡ number) × ((begin_of s t events).place ≡ place) × ((begin_of s t events).detail ≡ detail)
 
-  said : {g : Begun} → g ≡ begin_of s t events → Said g.number g.place g.detail
-  said e = (ap (λ (x : Begun). x.number) (sym e), ap (λ (x : Begun). x.place) (sym e), ap (λ (x : Begun). x.detail) (sym e))
+  said : {g : Beginning} → g ≡ begin_of s t events → Said g.number g.place g.detail
+  said e = (ap (λ (x : Beginning). x.number) (sym e), ap (λ (x : Beginning). x.place) (sym e), ap (λ (x : Beginning). x.detail) (sym e))
 
   -- and each way leads to its number, place and detail
   begins : {number place detail : ℕ} → Starts s t events number place detail → Said number place detail
@@ -133,14 +132,14 @@ module _ (s t : List ℕ) (events : ℕ) where
 
   pub begin_read : (begin_of s t events).number ≡ 0 → ((begin_of s t events).network ≡ (open_of s).network) × ((begin_of s t events).table ≡ (list_of t).table)
   begin_read =
-      begin_by s t events (λ (g : Begun). g.number ≡ 0 → (g.network ≡ (open_of s).network) × (g.table ≡ (list_of t).table))
+      begin_by s t events (λ (g : Beginning). g.number ≡ 0 → (g.network ≡ (open_of s).network) × (g.table ≡ (list_of t).table))
       (λ k p d h z. absurd (h z))
       λ a b c d z. (refl, refl)
 
   -- the state is one that a reading accepts
   pub begin_opens : (begin_of s t events).number ≡ 0 → open_of s ≡ opened 0 0 0 (open_of s).network
   begin_opens =
-      begin_by s t events (λ (g : Begun). g.number ≡ 0 → open_of s ≡ opened 0 0 0 (open_of s).network)
+      begin_by s t events (λ (g : Beginning). g.number ≡ 0 → open_of s ≡ opened 0 0 0 (open_of s).network)
       (λ k p d h z. absurd (h z))
       λ a b c d z. let o = (accepted s d).is in o ∙ ap (λ (x : Opened). opened 0 0 0 x.network) (sym o)
 

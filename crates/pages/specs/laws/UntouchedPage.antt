@@ -10,8 +10,7 @@ use Rattle.network.specs.State.{open_of, bytes_of}
 use Rattle.floodnet.specs.Refusals.{refusal_forward}
 use Rattle.floodnet.specs.Forward.{forwarded, receivers}
 use Rattle.broadcastnet.specs.Commit.{image_net}
-use Rattle.engine.specs.declared.Begun.{Begun}
-use Rattle.engine.specs.Start.{begin_of}
+use Rattle.engine.specs.Start.{Beginning, begin_of}
 use Rattle.engine.specs.Alone.{Forwards, forwarded_by, no_forward, forward_on, forward_of, check_of, copy_of, copied_of}
 use Rattle.engine.specs.Draining.{drain_end_of}
 use Rattle.engine.specs.Imaging.{image_answer_of, imaged_of}
@@ -24,7 +23,7 @@ forward_untouched : (s t : List ℕ) (p m : ℕ) → ((forward_of s t p m).answe
 unfolding forward_of forward_on
 forward_untouched s t p m = first (eqb g.number 0) (ltb p 32 && ltb m 64) (eqb k 0)
   where
-    g : Begun
+    g : Beginning
     g = begin_of s t 0
 
     k : ℕ
@@ -75,7 +74,7 @@ forward_then : (s t : List ℕ) (p m : ℕ) → (begin_of s t 0).number ≡ 0 �
 unfolding forward_of forward_on
 forward_then s t p m z = rw z (first (ltb p 32 && ltb m 64) (eqb k 0))
   where
-    g : Begun
+    g : Beginning
     g = begin_of s t 0
 
     k : ℕ

@@ -1,8 +1,6 @@
 -- The code of forward, part by part: what the network becomes is what Forward says. Assumes nothing.
-use mathlib.Core.Path.{◌≡◌, ap, ap₂, ◌∙◌}
-use mathlib.Core.List.{List}
-use Prim.Native.Nat.{ℕ, ◌^◌, ◌<◌}
-use lib.ListN.{get_or, set}
+use Rattle.std.specs.Prelude.{◌≡◌, List, ℕ, ◌^◌, ◌<◌, get_or, set}
+use Rattle.std.proofs.Common.{ap, ap₂, ◌∙◌}
 use Rattle.sets.specs.Set.{has, union, minus, only, puts, with_if, sift}
 use Rattle.sets.specs.Rising.{members}
 use Rattle.lists.specs.Edit.{edit}

@@ -1,10 +1,7 @@
 -- How the code of src/refusals.rt comes to a refusal. Assumes nothing.
-use mathlib.Core.Path.{◌≡◌, sym, ap, ◌∙◌}
-use mathlib.Core.Bool.{Bool, true, false}
-use Prim.Native.Nat.{ℕ, ◌^◌, ◌<◌}
-use native.Mathlib.Omega.{arith}
-use lib.Dec.{eqb}
-use borrow.Author.Tests.{eq-eqb, eqb-true}
+use Rattle.std.specs.Prelude.{◌≡◌, Bool, true, false, ℕ, ◌^◌, ◌<◌, eqb}
+use Rattle.std.proofs.Common.{sym, ap, ◌∙◌, arith, eqb-true}
+use Rattle.std.proofs.lemmas.Bool.{eq-eqb}
 use Rattle.sets.specs.Set.{has, minus, sift, size, Subset}
 use Rattle.sets.proofs.laws.Bools.{and_yes, bool_ext}
 use Rattle.sets.proofs.laws.Build.{has_sifted}

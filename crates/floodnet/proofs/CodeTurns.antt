@@ -1,7 +1,6 @@
 -- What one event comes to, refused or accepted, as src/turns.rt answers. Assumes nothing.
-use mathlib.Core.Path.{◌≡◌, refl, sym, ap}
-use Prim.Native.Nat.{ℕ, zero, suc, ◌<◌}
-use native.Mathlib.Omega.{arith}
+use Rattle.std.specs.Prelude.{◌≡◌, refl, ℕ, zero, suc, ◌<◌}
+use Rattle.std.proofs.Common.{sym, ap, arith}
 use Rattle.network.specs.declared.Network.{Network}
 use Rattle.network.specs.declared.Table.{Table}
 use Rattle.network.specs.declared.refusal.Refusal.{Refusal}

@@ -1,10 +1,7 @@
 -- A loop that visits the members of s, the least first, and edits a list on the way: once the members t are visited, the
 -- list is edit (f t) of what it was. Assumes nothing.
-use mathlib.Core.Path.{◌≡◌, sym, ap, ◌∙◌}
-use mathlib.Core.Bool.{true}
-use mathlib.Core.List.{List}
-use Prim.Native.Nat.{ℕ, ◌^◌, ◌<◌}
-use lib.ListN.{get_or}
+use Rattle.std.specs.Prelude.{◌≡◌, true, List, ℕ, ◌^◌, ◌<◌, get_or}
+use Rattle.std.proofs.Common.{sym, ap, ◌∙◌}
 use Rattle.sets.specs.Set.{has, union, minus, only, Subset, lowest}
 use Rattle.sets.proofs.laws.Bounds.{minus_lt}
 use Rattle.sets.specs.Rising.{Takes}

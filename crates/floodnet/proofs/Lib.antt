@@ -1,5 +1,4 @@
 pub mod CodeArrays
-pub mod CodeChoices
 pub mod CodeForward
 pub mod CodeLinks
 pub mod CodeRefusals

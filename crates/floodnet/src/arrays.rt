@@ -2,17 +2,18 @@
 // loops' turns are laws of the crates below: `Visit` (sets, proofs/laws/Visits.antt) for a set that is found, `Visiting` (lists,
 // specs/laws/Visit.antt) for an array that is changed. Each loop has as many turns as there are members.
 // A forward keeps those left in a word of 64 bits, from which some machines take the least in a step less (docs/BENCH.md).
-ghost use Rattle.std.specs.Prelude.{◌≡◌, ◌<◌};
-ghost use Rattle.sets.specs.Set.{has, minus, only, when, puts, strikes, with_if, sift};
+ghost use Rattle.std.specs.Prelude.{◌≡◌, ℕ, ◌<◌};
+ghost use Rattle.sets.specs.Set.{has, minus, only, when, puts, sift};
 ghost use Rattle.sets.specs.Rising.{members};
 ghost use Rattle.lists.specs.Edit.{edit};
 ghost use Rattle.lists.specs.Visit.{visits};
-ghost use Rattle.floodnet.specs.Lent.{holding};
+ghost use Rattle.floodnet.specs.Lent.{holding, Makes};
 
-use sets::Word;
 use network::{Message, Peer};
+use sets::Word;
 
 // Those of s that have m neither pending nor seen: the members of s are visited, and no branch depends on who holds what.
+#[tactic(auto, using(crate::proofs::CodeArrays::taken_below))]
 pub(crate) fn lacking(pending: &[u64; 32], seen: &[u64; 32], s: u32, m: Message) -> u32
     requires { m.0 < 64 }
     ensures { result ≡ minus s (sift 32 s (holding pending.now seen.now m.0)) }
@@ -28,6 +29,7 @@ pub(crate) fn lacking(pending: &[u64; 32], seen: &[u64; 32], s: u32, m: Message)
 
 // m becomes pending at each peer of r: "take the receiving set's lowest member, found by the count of trailing zeros, until the set
 // is empty" (document 02, E4).
+#[tactic(auto, using(crate::proofs::CodeArrays::taken_below))]
 pub(crate) fn give(pending: &mut [u64; 32], r: u32, m: Message)
     requires { m.0 < 64 }
     ensures { pending.new ≡ visits (λ q. puts (only m.0)) (members 32 r) pending.old }
@@ -38,24 +40,12 @@ pub(crate) fn give(pending: &mut [u64; 32], r: u32, m: Message)
     }
 }
 
-// Each of `who` lists p.
-pub(crate) fn mark(neighbours: &mut [u32; 32], who: u32, p: Peer)
-    requires { p.0 < 32 }
-    ensures { neighbours.new ≡ edit (λ q w. with_if (has who q) p.0 w) neighbours.old }
+// What f makes of it becomes of the word of each of `who`.
+pub(crate) fn each<F: Fn(u32) -> u32>(words: &mut [u32; 32], who: u32, f: F)
+    requires { F.IsAlwaysCallable f }
+    ensures { (h : ℕ → ℕ) → Makes (F.post f) h → words.new ≡ edit (λ q. when (has who q) h) words.old }
 {
-    let i = p.0 as u32;
     for q in who.members() {
-        neighbours[q as usize] = neighbours[q as usize].with(i);
-    }
-}
-
-// None of `who` lists p.
-pub(crate) fn unmark(neighbours: &mut [u32; 32], who: u32, p: Peer)
-    requires { p.0 < 32 }
-    ensures { neighbours.new ≡ edit (λ q w. when (has who q) (strikes (only p.0)) w) neighbours.old }
-{
-    let i = p.0 as u32;
-    for q in who.members() {
-        neighbours[q as usize] = neighbours[q as usize].without(i);
+        words[q as usize] = f(words[q as usize]);
     }
 }

@@ -3,30 +3,30 @@ ghost use Rattle.std.specs.Prelude.{◌≡◌, ◌<◌};
 ghost use Rattle.floodnet.specs.Topics.{subscribed_to, unsubscribed_from};
 ghost use Rattle.floodnet.specs.Links.{link_up, link_down, cleared, placed, left, joined};
 
-use sets::Word;
 use super::{arrays, rows};
 use network::{Network, Peer};
+use sets::Word;
 
 // "Topics join subs; neighbours' records follow."
-#[tactic(auto, unfolding(crate::specs::Topics::subscribed_to))]
 pub(crate) fn subscribe(n: &mut Network, p: Peer, topics: u32)
     requires { p.0 < 32 }
     ensures { n.new ≡ subscribed_to n.old p topics }
 {
     let i = p.0 as usize;
+    let b = p.0 as u32;
     n.subs[i] = n.subs[i].union(topics);
-    rows::note_all(&mut n.known, n.neighbours[i], topics, p);
+    rows::in_rows(&mut n.known, n.neighbours[i], topics, |w| w.with(b));
 }
 
 // "Topics leave subs; neighbours' records follow."
-#[tactic(auto, unfolding(crate::specs::Topics::unsubscribed_from))]
 pub(crate) fn unsubscribe(n: &mut Network, p: Peer, topics: u32)
     requires { p.0 < 32 }
     ensures { n.new ≡ unsubscribed_from n.old p topics }
 {
     let i = p.0 as usize;
+    let b = p.0 as u32;
     n.subs[i] = n.subs[i].minus(topics);
-    rows::strike_all(&mut n.known, n.neighbours[i], topics, p);
+    rows::in_rows(&mut n.known, n.neighbours[i], topics, |w| w.without(b));
 }
 
 // Both sides record: p and each of `who` list each other, and know each other for their topics.
@@ -35,9 +35,10 @@ fn link_up(n: &mut Network, p: Peer, who: u32)
     ensures { n.new ≡ link_up n.old p who }
 {
     let i = p.0 as usize;
+    let b = p.0 as u32;
     n.neighbours[i] = n.neighbours[i].union(who);
-    arrays::mark(&mut n.neighbours, who, p);
-    rows::note_all(&mut n.known, who, n.subs[i], p);
+    arrays::each(&mut n.neighbours, who, |w| w.with(b));
+    rows::in_rows(&mut n.known, who, n.subs[i], |w| w.with(b));
     rows::learn(&mut n.known, p, &n.subs, who);
 }
 
@@ -47,14 +48,14 @@ fn link_down(n: &mut Network, p: Peer, who: u32)
     ensures { n.new ≡ link_down n.old p who }
 {
     let i = p.0 as usize;
+    let b = p.0 as u32;
     n.neighbours[i] = n.neighbours[i].minus(who);
-    arrays::unmark(&mut n.neighbours, who, p);
-    rows::drop_all(&mut n.known, who, p);
-    rows::row_minus(&mut n.known, p, who);
+    arrays::each(&mut n.neighbours, who, |w| w.without(b));
+    rows::whole_rows(&mut n.known, who, |w| w.without(b));
+    rows::whole_row(&mut n.known, p, |w| w.minus(who));
 }
 
 // "Record becomes zero."
-#[tactic(auto, unfolding(crate::specs::Links::cleared))]
 fn clear(n: &mut Network, p: Peer)
     requires { p.0 < 32 }
     ensures { n.new ≡ cleared n.old p }
@@ -66,7 +67,7 @@ fn clear(n: &mut Network, p: Peer)
     n.neighbours[i] = 0;
     n.pending[i] = 0;
     n.seen[i] = 0;
-    rows::row_clear(&mut n.known, p);
+    rows::whole_row(&mut n.known, p, |_| 0);
 }
 
 // p is present, with these topics.

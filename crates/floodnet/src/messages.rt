@@ -4,9 +4,9 @@ ghost use Rattle.network.specs.Network.{topic_of};
 ghost use Rattle.floodnet.specs.Produce.{produced};
 ghost use Rattle.floodnet.specs.Forward.{receivers, forwarded};
 
-use sets::Word;
 use super::arrays;
 use network::{Message, Network, Peer, Table};
+use sets::Word;
 
 // m becomes pending at p.
 #[tactic(auto, unfolding(crate::specs::Produce::produced))]

@@ -7,9 +7,9 @@ ghost use Rattle.network.specs.Refusal.{number};
 ghost use Rattle.floodnet.specs.Produce.{is_new};
 ghost use Rattle.floodnet.specs.Refusals.{refusal_produce, refusal_forward, refusal_topics, refusal_leave, refusal_join};
 
-use sets::Word;
 use super::arrays;
 use network::{Message, Network, Peer, Refusal, Table};
+use sets::Word;
 
 // "Message m is new when no present peer has it pending or seen (004)."
 fn is_new(n: &Network, m: Message) -> bool

@@ -1,5 +1,5 @@
 -- `floodnet::arrays::give` meets its contract. Assumes nothing.
-use borrow.Author.Rules.{rules}
+use Rattle.std.proofs.Common.{rules}
 use Rattle.sets.specs.Set.{puts}
 use Rattle.sets.proofs.laws.Lowest.{takes_narrow}
 use Rattle.lists.specs.laws.Visit.{visiting_none, visiting_more, visiting_done}
@@ -7,12 +7,6 @@ use Rattle.floodnet.proofs.arrays.give.Goals as goal
 
 pub loop-q-init : goal.loop-q-init
 loop-q-init c = visiting_none (search rules) (search rules)
-
-pub bounds-pending-q : goal.bounds-pending-q
-bounds-pending-q c = (takes_narrow c.loop-q.invariant.below c.in-Some.ensures.steps).below
-
-pub bounds-pending-q-in-loop-q : goal.bounds-pending-q-in-loop-q
-bounds-pending-q-in-loop-q c = (takes_narrow c.loop-q.invariant.below c.in-Some.ensures.steps).below
 
 pub loop-q-preserved : goal.loop-q-preserved
 unfolding puts

@@ -1,21 +1,11 @@
 -- `floodnet::arrays::lacking` meets its contract. Assumes nothing.
-use borrow.Author.Rules.{rules}
-use Rattle.sets.proofs.laws.Visits.{visit_none, visit_lt}
-use Rattle.sets.proofs.laws.Lowest.{takes_narrow}
+use Rattle.std.proofs.Common.{rules}
+use Rattle.sets.proofs.laws.Visits.{visit_none}
 use Rattle.floodnet.proofs.CodeArrays.{lacking_more, lacking_done}
 use Rattle.floodnet.proofs.arrays.lacking.Goals as goal
 
 pub loop-q-init : goal.loop-q-init
 loop-q-init c = visit_none (search rules) (search rules)
-
-pub bounds-pending-q : goal.bounds-pending-q
-bounds-pending-q c = (takes_narrow c.loop-q.invariant.below c.in-Some.ensures.steps).below
-
-pub bounds-seen-q : goal.bounds-seen-q
-bounds-seen-q c = (takes_narrow c.loop-q.invariant.below c.in-Some.ensures.steps).below
-
-pub with_if-r-requires : goal.with_if-r-requires
-with_if-r-requires c = (takes_narrow c.loop-q.invariant.below c.in-Some.ensures.steps).below
 
 pub loop-q-preserved : goal.loop-q-preserved
 loop-q-preserved c =

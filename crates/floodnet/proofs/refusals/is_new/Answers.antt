@@ -1,5 +1,5 @@
 -- `floodnet::refusals::is_new` meets its contract. Assumes nothing.
-use borrow.Author.Rules.{rules}
+use Rattle.std.proofs.Common.{rules}
 use Rattle.floodnet.proofs.CodeRefusals.{new_law}
 use Rattle.floodnet.proofs.refusals.is_new.Goals as goal
 

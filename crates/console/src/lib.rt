@@ -12,13 +12,13 @@ ghost use Rattle.network.specs.Refusal.{number_of};
 ghost use Rattle.console.specs.Console.{refused_text, text_of, flood_of, Printed};
 
 use engine::Tally;
-use network::Refusal;
+use network::{Network, Refusal};
 
 // Refused before any event: the first line alone.
 fn refused(refusal: Refusal, place: usize, out: &mut [u8]) -> usize
     ensures { Printed (refused_text (number_of refusal) place) out.old out.new result }
 {
-    report::report(u8::from(refusal), place, 0, network::blank(), false, out)
+    report::report(u8::from(refusal), place, 0, &Network::blank(), false, out)
 }
 
 // The run on the three parts, in a tally of its own.
@@ -37,7 +37,7 @@ fn run(state: &[u8], table: &[u8], events: &[u8], out: &mut [u8]) -> usize
     };
     let answer = engine::running::run_events(&mut n, &begun.table, events, &mut tally);
     let show = report::shown(answer.number);
-    report::report(answer.number, answer.place, answer.accepted, n, show, out)
+    report::report(answer.number, answer.place, answer.accepted, &n, show, out)
 }
 
 // What the program prints for its input; answers its length.

@@ -1,13 +1,7 @@
 -- How long what is printed can be, and the loop that writes the lines of the peers. Assumes nothing.
-use mathlib.Core.Path.{◌≡◌, ap, ◌∙◌}
-use mathlib.Core.Bool.{Bool, true, false, cond}
-use mathlib.Core.List.{List, [], ◌++◌, append-nil}
-use Prim.Native.Nat.{ℕ, zero, suc, ◌+◌, ◌*◌, ◌^◌, ◌≤◌, ◌<◌}
-use native.Mathlib.Omega.{arith}
-use lib.ListN.{length, drop, length-append}
-use borrow.Author.Tests.{lt-ltb, le-ltb}
+use Rattle.std.proofs.Common.{◌≡◌, refl, ap, ◌∙◌, Bool, true, false, cond, List, [], ◌++◌, ℕ, zero, suc, ◌+◌, ◌*◌, ◌^◌, ◌≤◌, ◌<◌, length, drop, arith, append-nil, length-append, lt-ltb, le-ltb}
 use Rattle.sets.specs.Set.{has, minus, only, size, lowest}
-use Rattle.sets.specs.Rising.{rising}
+use Rattle.sets.specs.Rising.{rising, Takes}
 use Rattle.sets.proofs.laws.Bounds.{minus_lt}
 use Rattle.sets.proofs.laws.Rising.{rising_empty, rising_lowest}
 use Rattle.sets.proofs.laws.Sizes.{size_le, size_rest}
@@ -16,7 +10,7 @@ use Rattle.network.specs.declared.Network.{Network}
 use Rattle.network.specs.Network.{peer, subs_of, pending_of, seen_of, Shaped}
 use Rattle.report.specs.laws.TextLaws.{length_count, length_byte, spaced_count, spaced_long}
 use Rattle.report.specs.Write.{Wrote}
-use Rattle.report.proofs.Write.{wrote_none, wrote_then, wrote_front}
+use Rattle.report.proofs.Write.{wrote_none, wrote_then, wrote_length, wrote_front}
 use Rattle.report.specs.Report.{flood, peer_word, first_line, count_line, peer_line, peer_lines, report_of, put_in, count_in, Reported}
 
 -- The first line: 6 + 3 + 1 + 20 + 1 + 20 + 1.
@@ -64,33 +58,34 @@ length_report number place accepted n shown a b c s =
 -- ---- writing
 
 -- What the loop over the peers keeps, with `left` for those whose lines are still to be written: their lines, written next, are the last of all.
-pub record Lining (n : Network) (s left : ℕ) (l : List ℕ) (at : ℕ) (r : List ℕ) (i : ℕ) : Type 0 where
+pub record Lining (n : Network) (left : ℕ) (l : List ℕ) (at : ℕ) (r : List ℕ) (i : ℕ) : Type 0 where
   pub below : left < 2 ^ 32
+  pub same : length r ≡ length l
   pub room : i + 17 * size left ≤ 596
-  pub all : (t : List ℕ) (j : ℕ) → Wrote r i (rising (λ p. peer_line n (peer p)) 32 left) t j → Wrote l at (rising (λ p. peer_line n (peer p)) 32 s) t j
+  pub all : (t : List ℕ) (j : ℕ) → Wrote r i (rising (λ p. peer_line n (peer p)) 32 left) t j → Wrote l at (peer_lines n) t j
 
 -- before the first line
-pub lines_none : (n : Network) (s : ℕ) (l : List ℕ) (at : ℕ) → s < 2 ^ 32 → at ≤ 52 → Lining n s s l at l at
-lines_none n s l at b h = record { below = b; room = omega (arith, size_le 32 s b); all = λ t j w. w }
+pub lines_none : {n : Network} {left : ℕ} {l : List ℕ} {at : ℕ} → left < 2 ^ 32 → left ≡ n.present → at ≤ 52 → Lining n left l at l at
+unfolding peer_lines
+lines_none {n} {left} b e h = record { below = b; same = refl; room = omega (arith, size_le 32 left b); all = λ t j w. rw e at w }
 
--- there is room for one more, if one is left
-pub lines_room : {n : Network} {s left : ℕ} {l : List ℕ} {at : ℕ} {r : List ℕ} {i : ℕ} → Lining n s left l at r i → 0 < left → i + 17 ≤ 596
-lines_room {left = left} v h = omega (arith, v.room, size_rest 32 left h v.below)
+-- there is room for one more, where one is left
+pub lines_room : {n : Network} {left left' p : ℕ} {l : List ℕ} {at : ℕ} {r : List ℕ} {i : ℕ} → Lining n left l at r i → Takes 32 left p left' → i + 17 ≤ 596
+lines_room {left = left} v t = omega (arith, v.room, size_rest 32 left t.some v.below)
 
 -- the line of p, the least of those left
-pub lines_more : {n : Network} {s left left' p : ℕ} {l : List ℕ} {at : ℕ} {r r' : List ℕ} {i i' : ℕ} → Lining n s left l at r i → 0 < left → p ≡ lowest 32 left
-    → left' ≡ minus left (only (lowest 32 left)) → Wrote r i (peer_line n (peer p)) r' i' → i' ≤ i + 17 → Lining n s left' l at r' i'
-lines_more {n} {s} {left} {left'} {p} v h ep el w b = record {
-  below = rw el (minus_lt 32 left (only (lowest 32 left)) v.below);
-  room = omega (arith, v.room, b, ap size el, size_rest 32 left h v.below);
-  all = λ t j x. v.all t j (rw (rising_lowest (λ p. peer_line n (peer p)) 32 left h v.below) (wrote_then (rw ep at w) (rw el at x)));
+pub lines_more : {n : Network} {left left' p : ℕ} {l : List ℕ} {at : ℕ} {r r' : List ℕ} {i i' : ℕ} → Lining n left l at r i → Takes 32 left p left'
+    → Wrote r i (peer_line n (peer p)) r' i' → i' ≤ i + 17 → Lining n left' l at r' i'
+lines_more {n} {left} {left'} {p} v t w b = record {
+  below = rw t.rest (minus_lt 32 left (only (lowest 32 left)) v.below);
+  same = wrote_length w ∙ v.same;
+  room = omega (arith, v.room, b, ap size t.rest, size_rest 32 left t.some v.below);
+  all = λ t' j x. v.all t' j (rw (rising_lowest (λ p. peer_line n (peer p)) 32 left t.some v.below) (wrote_then (rw t.least at w) (rw t.rest at x)));
 }
 
 -- after the last
-pub lines_all : {n : Network} {s left : ℕ} {l : List ℕ} {at : ℕ} {r : List ℕ} {i : ℕ} → Lining n s left l at r i → left ≡ 0
-    → Wrote l at (rising (λ p. peer_line n (peer p)) 32 s) r i × (i ≤ 596)
-lines_all {n} {r = r} {i = i} v e =
-    (v.all r i (rw (e, rising_empty (λ p. peer_line n (peer p)) 32) (wrote_none r i)), omega (arith, v.room))
+pub lines_all : {n : Network} {left : ℕ} {l : List ℕ} {at : ℕ} {r : List ℕ} {i : ℕ} → Lining n left l at r i → left ≡ 0 → Wrote l at (peer_lines n) r i
+lines_all {n} {r = r} {i = i} v e = v.all r i (rw (e, rising_empty (λ p. peer_line n (peer p)) 32) (wrote_none r i))
 
 -- A short buffer is left as it was.
 pub reported_none : (number place accepted : ℕ) (n : Network) (shown : Bool) (l : List ℕ) → length l < 1024 → Reported number place accepted n shown l l 0
@@ -112,16 +107,16 @@ reported {l} number place accepted n shown e h w =
 
 -- The first line alone.
 pub reported_first : {l r : List ℕ} {j : ℕ} (number place accepted : ℕ) (n : Network) (shown : Bool) → 1024 ≤ length l → shown ≡ false
-    → Wrote l 0 (first_line number place accepted) r j × (j ≤ 52) → Reported number place accepted n shown l r j
+    → Wrote l 0 (first_line number place accepted) r j → j ≤ 52 → Reported number place accepted n shown l r j
 unfolding report_of
-reported_first number place accepted n shown e h w =
-    reported number place accepted n shown e (omega arith) (rw (h, append-nil (first_line number place accepted)) w.0)
+reported_first number place accepted n shown e h w b =
+    reported number place accepted n shown e (omega arith) (rw (h, append-nil (first_line number place accepted)) w)
 
 -- The first line and the peers.
 pub reported_all : {l r s : List ℕ} {i j : ℕ} (number place accepted : ℕ) (n : Network) (shown : Bool) → 1024 ≤ length l → shown ≡ true
-    → Wrote l 0 (first_line number place accepted) r i → Wrote r i (peer_lines n) s j × (j ≤ 596) → Reported number place accepted n shown l s j
+    → Wrote l 0 (first_line number place accepted) r i → Wrote r i (peer_lines n) s j → j ≤ 596 → Reported number place accepted n shown l s j
 unfolding report_of
-reported_all number place accepted n shown e h v w = reported number place accepted n shown e (omega arith) (rw h (wrote_then v w.0))
+reported_all number place accepted n shown e h v w b = reported number place accepted n shown e (omega arith) (rw h (wrote_then v w))
 
 -- ---- what the promise of `report` comes to
 

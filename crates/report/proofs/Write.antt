@@ -1,13 +1,9 @@
 -- Laws of specs/Write.antt. Assumes nothing.
-use mathlib.Core.Path.{◌≡◌, refl, ap, ◌∙◌}
-use mathlib.Core.List.{List, [], ◌∷◌, ◌++◌}
-use Prim.Native.Nat.{ℕ, suc, ◌+◌, ◌/◌, ◌%◌, ◌≤◌, ◌<◌}
-use native.Mathlib.Omega.{arith}
-use native.Mathlib.Numerals.{add-one}
-use lib.ListN.{length, get_or, set, take, drop, length-append}
-use lib.Seq.{sets, sets-eq, take-suc, take_all}
-use Rattle.report.specs.Text.{decimal}
-use Rattle.report.specs.laws.TextLaws.{decimal_small, decimal_more}
+use Rattle.std.proofs.Common.{◌≡◌, refl, sym, ap, ◌∙◌, List, [], ◌∷◌, ◌++◌, ℕ, suc, ◌+◌, ◌≤◌, length, set, take, drop, arith, append_assoc, length-append}
+use Rattle.std.proofs.Math.Seq.{length-sets}
+use Rattle.std.proofs.lemmas.List.Edits.{sets, sets-eq, paste_all}
+use Rattle.std.proofs.lemmas.Slice.{put_mid-paste}
+use borrow.Rule.Slice.PartMut.{put_mid}
 use Rattle.report.specs.Write.{written, Wrote}
 
 -- as a cut and a paste, where there is room
@@ -42,10 +38,6 @@ pub wrote_none : (l : List ℕ) (at : ℕ) → Wrote l at [] l at
 unfolding written
 wrote_none l at = record { place = omega arith; buffer = refl }
 
--- the place said otherwise
-pub wrote_to : {l : List ℕ} {at : ℕ} {bs r : List ℕ} {j : ℕ} (k : ℕ) → j ≡ k → Wrote l at bs r j → Wrote l at bs r k
-wrote_to k e w = record { place = omega (arith, w.place); buffer = w.buffer }
-
 -- one write after the other
 pub wrote_then : {l : List ℕ} {at : ℕ} {bs r cs s : List ℕ} {j k : ℕ} → Wrote l at bs r j → Wrote r j cs s k → Wrote l at (bs ++ cs) s k
 wrote_then {l} {at} {bs} {r} {cs} {s} {j} {k} v w =
@@ -54,35 +46,13 @@ wrote_then {l} {at} {bs} {r} {cs} {s} {j} {k} v w =
       buffer = w.buffer ∙ rw (v.place, v.buffer) (written_append l at bs cs);
     }
 
--- none of those of s yet
-pub wrote_none_yet : (l : List ℕ) (at : ℕ) → Wrote l at [] l (at + 0)
-wrote_none_yet l at = wrote_to _ (omega arith) (wrote_none l at)
-
--- one byte
-pub wrote_one : (l : List ℕ) (at b : ℕ) → Wrote l at (b ∷ []) (set l at b) (at + 1)
+-- The buffer keeps its length.
+pub wrote_length : {l : List ℕ} {at : ℕ} {bs r : List ℕ} {j : ℕ} → Wrote l at bs r j → length r ≡ length l
 unfolding written
-wrote_one l at b = record { place = refl; buffer = refl }
+wrote_length {l} {at} {bs} w = ap length w.buffer ∙ length-sets l at bs
 
--- one byte more
-pub wrote_more : {l : List ℕ} {at : ℕ} {bs r : List ℕ} {j : ℕ} (b : ℕ) → Wrote l at bs r j → Wrote l at (bs ++ (b ∷ [])) (set r j b) (j + 1)
-wrote_more {r = r} {j = j} b w = wrote_then w (wrote_one r j b)
-
--- one byte more of those of s
-pub wrote_next : {l : List ℕ} {at : ℕ} {r : List ℕ} (s : List ℕ) (i : ℕ) → i < length s → Wrote l at (take i s) r (at + i)
-    → Wrote l at (take (i + 1) s) (set r (at + i) (get_or s i 0)) (at + (i + 1))
-wrote_next {at = at} s i h w =
-    let e : at + i + 1 ≡ at + (i + 1) = omega arith in
-    wrote_to _ e (rw (add-one i, take-suc s i 0 h) (wrote_more (get_or s i 0) w))
-
--- all bytes of s
-pub wrote_all : {l : List ℕ} {at : ℕ} {r : List ℕ} {j : ℕ} (s : List ℕ) (i : ℕ) → length s ≤ i → Wrote l at (take i s) r j → Wrote l at s r j
-wrote_all s i h w = rw (take_all i s h) at w
-
--- a number below 10: its digit
-pub wrote_small : (l : List ℕ) (at x : ℕ) → x < 10 → Wrote l at (decimal x) (set l at (48 + x)) (at + 1)
-wrote_small l at x h = rw (decimal_small x h) (wrote_one l at (48 + x))
-
--- a number from 10 on: its tenth, then its last digit
-pub wrote_tenth : {l : List ℕ} {at : ℕ} {r : List ℕ} {j : ℕ} (x : ℕ) → 10 ≤ x → Wrote l at (decimal (x / 10)) r j
-    → Wrote l at (decimal x) (set r j (48 + x % 10)) (j + 1)
-wrote_tenth x h w = rw (decimal_more x h) (wrote_more (48 + x % 10) w)
+-- a part of the buffer overwritten with bs
+pub wrote_part : (l : List ℕ) (at k : ℕ) (bs r : List ℕ) → at + length bs ≤ length l → k ≡ length bs → r ≡ bs
+    → Wrote l at bs (put_mid at k l r) (at + length bs)
+wrote_part l at k bs r h e z =
+    record { place = refl; buffer = put_mid-paste at k l r bs (length bs) z (sym e) refl ∙ paste_all l at bs (length bs) refl ∙ sym (append_assoc (take at l) bs (drop (at + length bs) l)) ∙ sym (written_is l at bs h) }

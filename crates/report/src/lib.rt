@@ -12,58 +12,64 @@
 mod text;
 
 ghost use Rattle.std.specs.Prelude.{◌≡◌, ◌+◌, ◌≤◌, ◌<◌, length};
-ghost use Rattle.sets.specs.Set.{size};
+ghost use Rattle.network.specs.Network.{peer};
 ghost use Rattle.report.specs.Write.{Wrote};
-ghost use Rattle.report.specs.Report.{first_line, count_line, peer_lines, shown_for, Reported};
+ghost use Rattle.report.specs.Report.{first_line, peer_line, peer_lines, shown_for, Reported};
 
 use network::Network;
+use sets::Word;
 
 // "`FLOOD `, then number, place, accepted".
+#[tactic(auto, using(crate::specs::laws::TextLaws::length_byte, crate::specs::laws::TextLaws::spaced_long))]
 fn first_line(out: &mut [u8], number: u8, place: usize, accepted: usize) -> usize
     requires { 52 ≤ length out.old }
-    ensures { Wrote out.old 0 (first_line number place accepted) out.new result × (result ≤ 52) }
+    ensures line { Wrote out.old 0 (first_line number place accepted) out.new result }
+    ensures bound { result ≤ 52 }
 {
-    let word = text::copy(&mut *out, 0, b"FLOOD ");
-    let first = text::number(&mut *out, word, number as usize);
-    let second = text::spaced(&mut *out, first, place);
-    let third = text::spaced(&mut *out, second, accepted);
-    text::newline(&mut *out, third)
+    let word = text::copy(out, 0, b"FLOOD ");
+    let first = text::number(out, word, number as usize);
+    let second = text::spaced(out, first, place);
+    let third = text::spaced(out, second, accepted);
+    text::newline(out, third)
 }
 
 // "`PEER `, its number, and how many topics it subscribes to, messages are pending, messages seen".
-fn peer_line(out: &mut [u8], at: usize, p: u32, subs: u32, pending: u64, seen: u64) -> usize
-    requires { (p < 32) × (at + 17 ≤ length out.old) }
-    ensures { Wrote out.old at (count_line p (size subs) (size pending) (size seen)) out.new result × (result ≤ at + 17) }
+#[tactic(auto, using(crate::specs::laws::TextLaws::length_count, crate::specs::laws::TextLaws::spaced_count))]
+fn peer_line(out: &mut [u8], at: usize, n: &Network, p: u32) -> usize
+    requires fits { p < 32 }
+    requires room { at + 17 ≤ length out.old }
+    ensures line { Wrote out.old at (peer_line n.now (peer p)) out.new result }
+    ensures bound { result ≤ at + 17 }
 {
-    let word = text::copy(&mut *out, at, b"PEER ");
-    let first = text::number(&mut *out, word, p as usize);
-    let second = text::spaced(&mut *out, first, sets::size32(subs) as usize);
-    let third = text::spaced(&mut *out, second, sets::size64(pending) as usize);
-    let fourth = text::spaced(&mut *out, third, sets::size64(seen) as usize);
-    text::newline(&mut *out, fourth)
+    let i = p as usize;
+    let word = text::copy(out, at, b"PEER ");
+    let first = text::number(out, word, i);
+    let second = text::spaced(out, first, n.subs[i].size() as usize);
+    let third = text::spaced(out, second, n.pending[i].size() as usize);
+    let fourth = text::spaced(out, third, n.seen[i].size() as usize);
+    text::newline(out, fourth)
 }
 
 // "for each present peer rising".
-fn peer_lines(out: &mut [u8], at: usize, n: Network) -> usize
-    requires { (at ≤ 52) × (596 ≤ length out.old) }
-    ensures { Wrote out.old at (peer_lines n) out.new result × (result ≤ 596) }
+fn peer_lines(out: &mut [u8], at: usize, n: &Network) -> usize
+    requires place { at ≤ 52 }
+    requires room { 596 ≤ length out.old }
+    ensures lines { Wrote out.old at (peer_lines n.now) out.new result }
+    ensures bound { result ≤ 596 }
 {
     let mut next = at;
-    let mut left = n.present;
-    while left != 0 {
-        let p = sets::lowest32(left);
-        let i = p as usize;
-        next = peer_line(&mut *out, next, p, n.subs[i], n.pending[i], n.seen[i]);
-        left = sets::rest32(left);
+    for p in n.present.members() {
+        next = peer_line(out, next, n, p);
     }
     next
 }
 
 // "For 0 and any refused event": is a run's number followed by the peers?
+#[tactic(auto, unfolding(crate::specs::Report::shown_for))]
 pub fn shown(number: u8) -> bool
     ensures { result ≡ shown_for number }
 {
-    number == 0 || (6 <= number && number <= 16)
+    matches!(number, 0 | 6..=16)
 }
 
 // What is printed of a run's answer and the network after it, with the peers where `show` says so (for a run: `shown(number)`); answers its length.
@@ -71,18 +77,15 @@ pub fn report(
     number: u8,
     place: usize,
     accepted: usize,
-    n: Network,
+    n: &Network,
     show: bool,
     out: &mut [u8],
 ) -> usize
-    ensures { Reported number place accepted n show out.old out.new result }
+    ensures { Reported number place accepted n.now show out.old out.new result }
 {
     if out.len() < 1024 {
         return 0;
     }
-    let first = first_line(&mut *out, number, place, accepted);
-    if !show {
-        return first;
-    }
-    peer_lines(&mut *out, first, n)
+    let first = first_line(out, number, place, accepted);
+    if show { peer_lines(out, first, n) } else { first }
 }

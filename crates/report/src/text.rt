@@ -4,39 +4,33 @@ ghost use Rattle.report.specs.Text.{decimal, spaced as spaced_text, newline as n
 ghost use Rattle.report.specs.Write.{Wrote};
 
 // The bytes of s.
+#[tactic(auto, using(crate::proofs::Write::wrote_part))]
 pub(crate) fn copy(out: &mut [u8], at: usize, s: &[u8]) -> usize
     requires { at + length s.now ≤ length out.old }
     ensures { Wrote out.old at s.now out.new result }
 {
-    let mut i: usize = 0;
-    while i < s.len() {
-        out[at + i] = s[i];
-        i += 1;
-    }
-    at + i
+    let end = at + s.len();
+    out[at..end].copy_from_slice(s);
+    end
 }
 
-// x in decimal: from 10 on its tenth, then its last digit.
+// x in decimal.
+#[tactic(auto, using(crate::specs::laws::TextLaws::decimal_std))]
 pub(crate) fn number(out: &mut [u8], at: usize, x: usize) -> usize
     requires { at + length (decimal x) ≤ length out.old }
     ensures { Wrote out.old at (decimal x) out.new result }
 {
-    if x < 10 {
-        out[at] = 48 + (x as u8);
-        return at + 1;
-    }
-    let last = number(&mut *out, at, x / 10);
-    out[last] = 48 + ((x % 10) as u8);
-    last + 1
+    copy(out, at, itoa::Buffer::new().format(x).as_bytes())
 }
 
 // A space, then x in decimal.
+#[tactic(auto, unfolding(crate::specs::Text::spaced))]
 pub(crate) fn spaced(out: &mut [u8], at: usize, x: usize) -> usize
     requires { at + length (spaced_text x) ≤ length out.old }
     ensures { Wrote out.old at (spaced_text x) out.new result }
 {
-    out[at] = b' ';
-    number(&mut *out, at + 1, x)
+    let space = copy(out, at, b" ");
+    number(out, space, x)
 }
 
 // The end of a line.
@@ -44,6 +38,5 @@ pub(crate) fn newline(out: &mut [u8], at: usize) -> usize
     requires { at < length out.old }
     ensures { Wrote out.old at newline_text out.new result }
 {
-    out[at] = b'\n';
-    at + 1
+    copy(out, at, b"\n")
 }

@@ -2,6 +2,8 @@
 use Rattle.std.specs.Prelude.{◌≡◌, refl, List, [], ◌∷◌, ◌++◌, ℕ, zero, suc, ◌+◌, ◌-◌, ◌*◌, ◌/◌, ◌%◌, ◌^◌, ◌≤◌, ◌<◌, length, get_or}
 use Rattle.std.proofs.Common.{sym, ap, ◌∙◌, pow-suc, div-add-mod', arith, length-append, lt-ltb, le-ltb}
 use Rattle.std.proofs.Math.Decide.{dec_lt}
+use Rattle.std.proofs.lemmas.Fmt.{decimal_by_steps}
+use Rattle.std.specs.Fmt.{decimal as std_decimal}
 use Rattle.report.specs.Text.{figure, digits, decimal, spaced}
 
 -- ---- how they are made
@@ -49,6 +51,13 @@ by_digits P small more x = go (suc x) x (omega arith)
     go : (k x : ℕ) → x < k → P x
     go zero x h = absurd (omega arith)
     go (suc k) x h = either x (dec_lt x 10) (λ m. go k (x / 10) (omega arith))
+
+-- What the library prints of a number of 64 bits.
+pub decimal_std : (x : ℕ) → x < 2 ^ 64 → std_decimal x ≡ decimal x
+decimal_std =
+    decimal_by_steps (λ (x : ℕ) (ds : List ℕ). ds ≡ decimal x)
+    (λ x h. sym (decimal_small x h))
+    (λ x ds h e. ap (λ (r : List ℕ). r ++ figure (x % 10)) e ∙ sym (decimal_more x h))
 
 -- ---- what they say
 

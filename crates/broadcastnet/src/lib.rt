@@ -13,8 +13,8 @@
 ghost use Rattle.std.specs.Prelude.{◌≡◌};
 ghost use Rattle.broadcastnet.specs.Commit.{together, without, image_net};
 
-use sets::Word;
 use network::Network;
+use sets::Word;
 
 // The messages that are pending at any peer. (The drain has the same walk, over the words of its own specs/AtOnce.antt. To share it would take a
 // public function there, a law that the two definitions are one, and the crate drain below this one: more than the four lines.)

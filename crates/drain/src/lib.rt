@@ -17,8 +17,8 @@ ghost use Rattle.drain.specs.Pairs.{waiting_of, empty_words};
 ghost use Rattle.drain.specs.AtOnce.{TopicsFit, anywhere_of};
 ghost use Rattle.drain.specs.Lent.{DrainsTo};
 
-use sets::Word;
 use network::{Network, Table};
+use sets::Word;
 use sorted::Sorted;
 
 // What a drain answers: "the forwards made, the rounds finished, and whether nothing is pending".

@@ -6,10 +6,10 @@ ghost use Rattle.floodnet.specs.View.{fwd};
 ghost use Rattle.drain.specs.Pairs.{pairs_of, list_of};
 ghost use Rattle.drain.specs.AtOnce.{TopicsFit, topics_of, ByTopic, OwnTopics, AllFiled, EachFiled, gives};
 
-use sets::Word;
 use super::how_many;
 use floodnet::messages;
 use network::{Message, Network, Peer, Table};
+use sets::Word;
 
 // The topics of the messages of s.
 fn topics_of(table: &Table, s: u64) -> u32

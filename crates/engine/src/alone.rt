@@ -4,10 +4,10 @@ ghost use Rattle.network.specs.Refused.{checked_as};
 ghost use Rattle.engine.specs.Alone.{check_of, copy_of, copied_of, forward_of};
 ghost use Rattle.engine.specs.Alone.{forwarded_as, Gives};
 
-use sets::Word;
 use crate::{Forwarded, start};
 use floodnet::turns;
 use network::{Checked, Message, Network, Peer, Refusal, Refused, Table};
+use sets::Word;
 
 // "Reading [..] refuse[s] by 1, then" 20 to 26, "and by nothing else".
 pub fn relay_check(state: &[u8]) -> Checked

@@ -3,9 +3,9 @@ ghost use Rattle.std.specs.Prelude.{◌≡◌};
 ghost use Rattle.sets.specs.Set.{size};
 ghost use Rattle.engine.specs.Run.{tallied_of, Room};
 
-use sets::Word;
 use crate::Tally;
 use events::kind::Kind;
+use sets::Word;
 
 // One accepted event more.
 #[tactic(auto, unfolding(crate::specs::Run::tallied_of))]

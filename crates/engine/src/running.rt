@@ -5,10 +5,10 @@ ghost use Rattle.network.specs.Network.{Rows};
 ghost use Rattle.floodnet.specs.Step.{numbered};
 ghost use Rattle.engine.specs.Run.{Turn, ReadFits, ran, run_all, RunsTo};
 
-use floodnet::Turned;
 use crate::{Answer, Tally};
 use events::Event;
 use events::kind::Kind;
+use floodnet::Turned;
 use network::{Network, Refusal, Refused, Table};
 
 // What was read is done, or refused as reading refuses it.

@@ -1,21 +1,15 @@
 -- The loop over all peers that comes to the peers subscribed to each topic. Assumes nothing.
-use mathlib.Core.Path.{◌≡◌, refl, sym, ap, ◌∙◌}
-use mathlib.Core.Bool.{Bool, true, false, not, ◌&&◌}
+use mathlib.Core.Path.{◌≡◌, sym, ap, ◌∙◌}
 use mathlib.Core.List.{List}
-use Prim.Native.Nat.{ℕ, ◌+◌, ◌^◌, ◌≤◌, ◌<◌}
+use Prim.Native.Nat.{ℕ, ◌+◌}
 use native.Mathlib.Omega.{arith}
-use native.Mathlib.Decide.{dec_lt}
-use lib.ListN.{length, get_or, set, replicate, length-replicate, get_or-replicate, get_or-eq_default}
-use Rattle.sets.specs.Set.{has, union, minus, only, when, puts, with_if, set_of, Subset, lowest}
-use Rattle.sets.proofs.laws.Members.{has_minus, has_with, has_with_other}
-use Rattle.sets.proofs.laws.Bounds.{minus_lt}
-use Rattle.sets.proofs.laws.Lowest.{lowest_has}
+use lib.ListN.{get_or, replicate, length-replicate, get_or-replicate}
+use Rattle.sets.specs.Set.{has, with_if, set_of}
 use Rattle.sets.proofs.laws.Build.{fill_none, fill_more}
-use Rattle.sets.proofs.laws.Visits.{minus_none, subset_self, subset_step, visit_new, visit_step}
 use Rattle.lists.specs.Tab.{tab}
 use Rattle.lists.specs.laws.Tab.{is_tab, length_tab, get_or_tab}
 use Rattle.lists.specs.Edit.{edit}
-use Rattle.lists.specs.laws.Edit.{length_edit, get_or_edit, get_or_edit_out, edit_more, edit_none}
+use Rattle.lists.specs.laws.Edit.{length_edit, get_or_edit}
 use Rattle.network.specs.Tests.{joined_to}
 
 -- the peers below q that are subscribed to t

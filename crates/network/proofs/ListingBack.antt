@@ -54,7 +54,7 @@ unfolding list_back Subset
 backs_not {neighbours} {listed} {left} {q = q} {p = p} b wide h =
     let t = takes_narrow b.below wide in (
       sym (lowest_of_is 32 _ q t.below
-      (and_both (b.within q (takes_has b.below t)) (ap not h))
-      λ j l. and_no (has listed j) _ λ e. ap not (b.back j (has_minus listed left j ∙ and_both e (ap not (lowest_least 32 left j (rw t.least at l)))))),
+          (and_both (b.within q (takes_has b.below t)) (ap not h))
+          λ j l. and_no (has listed j) _ λ e. ap not (b.back j (has_minus listed left j ∙ and_both e (ap not (lowest_least 32 left j (rw t.least at l)))))),
       t.below,
     )

@@ -13,8 +13,8 @@ use Rattle.sets.proofs.laws.Bounds.{meet_lt, minus_lt}
 use Rattle.sets.proofs.laws.Build.{set_of_lt, has_set_of, is_set_of}
 use Rattle.sets.specs.Set.{has, meet, minus, set_of, lowest}
 use Rattle.sets.specs.Rising.{Gives}
-use Rattle.sets.proofs.laws.Bools.{clash, and_or_not, ne_eqb}
-use Rattle.sets.proofs.laws.Least.{lowest_of_le, lowest_of_same, lowest_of_is_all}
+use Rattle.sets.proofs.laws.Bools.{and_or_not, ne_eqb}
+use Rattle.sets.proofs.laws.Least.{lowest_of_same, lowest_of_is_all}
 use Rattle.sets.proofs.laws.Lowest.{lowest_none, lowest_lowest_of}
 use Rattle.sets.specs.Any.{all}
 use Rattle.sets.proofs.laws.Any.{all_same}

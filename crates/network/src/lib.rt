@@ -22,7 +22,6 @@ ghost use Rattle.network.specs.State.{blank_net, read_as, open_of, Opens, bytes_
 ghost use Rattle.network.specs.Rows.{blank_table, listed_as, list_of};
 
 use endian::Little;
-
 pub use refusal::Refusal;
 
 // "A peer number, a topic number and a message number are separate sorts": none stands where another is meant.

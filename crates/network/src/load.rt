@@ -4,8 +4,8 @@ ghost use Rattle.lists.specs.Tab.{tab};
 ghost use Rattle.network.specs.State.{word_in, long_in, known_in};
 ghost use Rattle.network.specs.Layout.{RowStored};
 
-use endian::Little;
 use crate::Peer;
+use endian::Little;
 
 // Word j of each record.
 #[tactic(auto, using(crate::proofs::Steps::filling), unfolding(crate::specs::State::word))]

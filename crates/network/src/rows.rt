@@ -5,8 +5,8 @@ ghost use Rattle.lists.specs.Tab.{tab};
 ghost use Rattle.network.specs.RowWords.{row_word, word_right, bad_word, words_table};
 ghost use Rattle.network.specs.Tests.{Found};
 
-use endian::Little;
 use crate::Table;
+use endian::Little;
 
 // The number of each row.
 #[tactic(auto, using(crate::proofs::Steps::filling), unfolding(crate::specs::RowWords::row_word))]

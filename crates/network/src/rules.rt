@@ -7,8 +7,8 @@ ghost use Rattle.network.specs.Refusal.{number};
 ghost use Rattle.network.specs.Rules.{empty_right, absent_fault, present_fault, fault_of};
 ghost use Rattle.network.specs.Tests.{Found, subscribers_of, joined_to, row_empty, near_absent, list_back, same_at, row_known};
 
-use sets::Word;
 use crate::{Network, Peer, Refusal, Topic, spot};
+use sets::Word;
 
 // "A peer is present when byte 0 is 1": the peers whose first word has 1 as its lowest byte.
 #[tactic(auto, using(sets::proofs::laws::Build::fill_none, sets::proofs::laws::Build::fill_more), unfolding(sets::specs::Set::when, sets::specs::Set::puts))]

@@ -6,9 +6,9 @@ ghost use Rattle.network.specs.Network.{topic, spot, pubs_of, subs_of, neighbour
 ghost use Rattle.network.specs.Rules.{head_of};
 ghost use Rattle.network.specs.Storing.{put_head, put_row};
 
-use sets::Word;
-use endian::Little;
 use crate::{Network, Peer};
+use endian::Little;
+use sets::Word;
 
 // The first word of p's record: 1 where p is present.
 fn head(n: &Network, p: Peer) -> u32

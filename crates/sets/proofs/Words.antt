@@ -8,10 +8,9 @@ use lib.Dec.{eqb}
 use lib.Pow.{pow_pos, pow-lt}
 use lib.Bits.{bit_and, bit_or, bit_xor, or_zero_r, xor_add_and, and_mask}
 use Rattle.sets.proofs.laws.Bools.{apart, apart_true}
-use Rattle.sets.specs.Set.{has, union, meet, minus, only, when, puts, with_if, digit, lowest}
+use Rattle.sets.specs.Set.{has, union, meet, minus, only, when, puts, with_if, digit}
 use Rattle.sets.proofs.laws.Members.{has_first, has_rest, has_meet, has_xor, ext_below, has_minus}
-use Rattle.sets.proofs.laws.Bounds.{meet_lt, minus_lt, only_lt}
-use Rattle.sets.proofs.laws.Lowest.{lowest_has, only_le, minus_only, and_pred}
+use Rattle.sets.proofs.laws.Bounds.{meet_lt, minus_lt}
 
 -- A word of k bits that are all set has every number below k.
 has_all : (k i : ℕ) → i < k → has (2 ^ k - 1) i ≡ true

@@ -1,15 +1,13 @@
 -- Laws of specs/Pairs.antt. Assumes nothing.
-use Rattle.std.specs.Prelude.{◌≡◌, refl, ◌⊎◌, Bool, true, cond, ◌&&◌, eqb, get_or}
+use Rattle.std.specs.Prelude.{◌≡◌, refl, Bool, true, cond, ◌&&◌, eqb, get_or}
 use Rattle.std.proofs.Math.Path.{sym, ap}
-use Rattle.std.proofs.Common.{◌∙◌, ap₂, inl, inr, eqb-true, eq-eqb}
+use Rattle.std.proofs.Common.{◌∙◌, ap₂, eqb-true, eq-eqb}
 use mathlib.Core.List.{List, [], ◌∷◌, ◌++◌}
-use Prim.Native.Nat.{ℕ, zero, suc, ◌+◌, ◌-◌, ◌^◌, ◌≤◌, ◌<◌}
-use Rattle.std.proofs.Math.Nat.{sub-zero}
+use Prim.Native.Nat.{ℕ, zero, suc, ◌+◌, ◌^◌, ◌<◌}
 use native.Mathlib.Omega.{arith}
 use Rattle.std.proofs.Math.ListN.{length, take, length-take}
-use Rattle.std.proofs.Math.Decide.{dec_lt}
 use Rattle.std.proofs.Math.Seq.{take-nil}
-use Rattle.sets.specs.Set.{has, minus, only, lowest, count, digit}
+use Rattle.sets.specs.Set.{has, only, lowest, count, digit}
 use Rattle.sets.specs.Rising.{rising, Takes}
 use Rattle.sets.proofs.laws.Bools.{bool_ext, and_both, and_yes}
 use Rattle.sets.proofs.laws.Members.{has_none}

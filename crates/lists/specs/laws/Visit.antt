@@ -4,7 +4,7 @@ use Rattle.std.specs.Prelude.{◌≡◌, refl, Bool, true, false, cond, ◌&&◌
 use Rattle.std.proofs.Common.{sym, ap, ◌∙◌, arith, lt-ltb, le-ltb, ltb-true}
 use Rattle.std.proofs.Math.Bool.{and-false}
 use Rattle.std.proofs.Math.Decide.{dec_lt, ℕ_discrete}
-use Rattle.sets.specs.Set.{has, minus, only, when, lowest}
+use Rattle.sets.specs.Set.{has, only, when, lowest}
 use Rattle.sets.specs.Rising.{rising, members, Takes}
 use Rattle.sets.proofs.laws.Bools.{bool_ext}
 use Rattle.sets.proofs.laws.Bounds.{has_out, minus_lt}

@@ -1,5 +1,5 @@
 -- `network::rules::near_absent` meets its contract. Assumes nothing.
-use Rattle.std.proofs.Common.{rules, ap, ◌∙◌}
+use Rattle.std.proofs.Common.{rules, ◌∙◌}
 use Rattle.network.proofs.Tests.{near_next}
 use Rattle.network.proofs.rules.near_absent.Goals as goal
 

@@ -1,5 +1,5 @@
 -- `drain::sorted::Sorted::drain_peer` meets its contract. The loop keeps what the first pairs of those left still have to do. Assumes nothing.
-use Rattle.std.proofs.Common.{◌≡◌, sym, ap, ◌∙◌, inl, inr, arith, rules, take}
+use Rattle.std.proofs.Common.{◌≡◌, sym, ◌∙◌, arith, rules, take}
 use Rattle.std.proofs.Math.Seq.{take_all}
 use Rattle.flooding.specs.Machine.{run}
 use Rattle.floodnet.specs.View.{fwd}

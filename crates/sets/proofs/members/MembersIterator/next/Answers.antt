@@ -1,6 +1,5 @@
 -- `Members::next` takes the least of the members that are left. Assumes nothing.
-use Rattle.std.proofs.Common.{rules, sym, ap, ◌∙◌, eqb-true, ◌≡◌, ◌<◌, arith, length}
-use Rattle.sets.specs.Rising.{Takes}
+use Rattle.std.proofs.Common.{sym, ap, ◌∙◌, eqb-true, arith, length}
 use Rattle.sets.proofs.laws.Rising.{members_takes}
 use Rattle.sets.proofs.members.MembersIterator.next.Goals as goal
 

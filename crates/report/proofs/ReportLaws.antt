@@ -1,6 +1,6 @@
 -- How long what is printed can be, and the loop that writes the lines of the peers. Assumes nothing.
 use Rattle.std.proofs.Common.{◌≡◌, refl, ap, ◌∙◌, Bool, true, false, cond, List, [], ◌++◌, ℕ, zero, suc, ◌+◌, ◌*◌, ◌^◌, ◌≤◌, ◌<◌, length, drop, arith, append-nil, length-append, lt-ltb, le-ltb}
-use Rattle.sets.specs.Set.{has, minus, only, size, lowest}
+use Rattle.sets.specs.Set.{has, only, size, lowest}
 use Rattle.sets.specs.Rising.{rising, Takes}
 use Rattle.sets.proofs.laws.Bounds.{minus_lt}
 use Rattle.sets.proofs.laws.Rising.{rising_empty, rising_lowest}
@@ -9,8 +9,9 @@ use Rattle.network.specs.declared.Peer.{Peer}
 use Rattle.network.specs.declared.Network.{Network}
 use Rattle.network.specs.Network.{peer, subs_of, pending_of, seen_of, Shaped}
 use Rattle.report.specs.laws.TextLaws.{length_count, length_byte, spaced_count, spaced_long}
-use Rattle.report.specs.Write.{Wrote}
-use Rattle.report.proofs.Write.{wrote_none, wrote_then, wrote_length, wrote_front}
+use Rattle.report.specs.declared.text.Page.{Page}
+use Rattle.report.specs.Write.{Put}
+use Rattle.report.proofs.Write.{wrote_front, put_none, put_then}
 use Rattle.report.specs.Report.{flood, peer_word, first_line, count_line, peer_line, peer_lines, report_of, put_in, count_in, Reported}
 
 -- The first line: 6 + 3 + 1 + 20 + 1 + 20 + 1.
@@ -58,34 +59,35 @@ length_report number place accepted n shown a b c s =
 -- ---- writing
 
 -- What the loop over the peers keeps, with `left` for those whose lines are still to be written: their lines, written next, are the last of all.
-pub record Lining (n : Network) (left : ℕ) (l : List ℕ) (at : ℕ) (r : List ℕ) (i : ℕ) : Type 0 where
+pub record Lining (n : Network) (left : ℕ) (p q : Page) : Type 0 where
   pub below : left < 2 ^ 32
-  pub same : length r ≡ length l
-  pub room : i + 17 * size left ≤ 596
-  pub all : (t : List ℕ) (j : ℕ) → Wrote r i (rising (λ p. peer_line n (peer p)) 32 left) t j → Wrote l at (peer_lines n) t j
+  pub long : length q.out.now ≡ length p.out.now
+  pub room : q.at + 17 * size left ≤ p.at + 544
+  pub all : (r : Page) → Put q (rising (λ i. peer_line n (peer i)) 32 left) r → Put p (peer_lines n) r
 
 -- before the first line
-pub lines_none : {n : Network} {left : ℕ} {l : List ℕ} {at : ℕ} → left < 2 ^ 32 → left ≡ n.present → at ≤ 52 → Lining n left l at l at
+pub lines_none : {n : Network} {left : ℕ} {p : Page} → left < 2 ^ 32 → left ≡ n.present → Lining n left p p
 unfolding peer_lines
-lines_none {n} {left} b e h = record { below = b; same = refl; room = omega (arith, size_le 32 left b); all = λ t j w. rw e at w }
+lines_none {n} {left} b e = record { below = b; long = refl; room = omega (arith, size_le 32 left b); all = λ r w. rw e at w }
 
 -- there is room for one more, where one is left
-pub lines_room : {n : Network} {left left' p : ℕ} {l : List ℕ} {at : ℕ} {r : List ℕ} {i : ℕ} → Lining n left l at r i → Takes 32 left p left' → i + 17 ≤ 596
-lines_room {left = left} v t = omega (arith, v.room, size_rest 32 left t.some v.below)
+pub lines_room : {n : Network} {left left' i : ℕ} {p q : Page} → Lining n left p q → Takes 32 left i left' → p.at + 544 ≤ length p.out.now
+    → q.at + 17 ≤ length q.out.now
+lines_room {left = left} v t h = omega (arith, v.room, v.long, h, size_rest 32 left t.some v.below)
 
--- the line of p, the least of those left
-pub lines_more : {n : Network} {left left' p : ℕ} {l : List ℕ} {at : ℕ} {r r' : List ℕ} {i i' : ℕ} → Lining n left l at r i → Takes 32 left p left'
-    → Wrote r i (peer_line n (peer p)) r' i' → i' ≤ i + 17 → Lining n left' l at r' i'
-lines_more {n} {left} {left'} {p} v t w b = record {
+-- the line of i, the least of those left
+pub lines_more : {n : Network} {left left' i : ℕ} {p q q' : Page} → Lining n left p q → Takes 32 left i left'
+    → Put q (peer_line n (peer i)) q' → q'.at ≤ q.at + 17 → Lining n left' p q'
+lines_more {n} {left} {left'} {i} v t w b = record {
   below = rw t.rest (minus_lt 32 left (only (lowest 32 left)) v.below);
-  same = wrote_length w ∙ v.same;
+  long = w.long ∙ v.long;
   room = omega (arith, v.room, b, ap size t.rest, size_rest 32 left t.some v.below);
-  all = λ t' j x. v.all t' j (rw (rising_lowest (λ p. peer_line n (peer p)) 32 left t.some v.below) (wrote_then (rw t.least at w) (rw t.rest at x)));
+  all = λ r x. v.all r (rw (rising_lowest (λ i. peer_line n (peer i)) 32 left t.some v.below) (put_then (rw t.least at w) (rw t.rest at x)));
 }
 
 -- after the last
-pub lines_all : {n : Network} {left : ℕ} {l : List ℕ} {at : ℕ} {r : List ℕ} {i : ℕ} → Lining n left l at r i → left ≡ 0 → Wrote l at (peer_lines n) r i
-lines_all {n} {r = r} {i = i} v e = v.all r i (rw (e, rising_empty (λ p. peer_line n (peer p)) 32) (wrote_none r i))
+pub lines_all : {n : Network} {left : ℕ} {p q : Page} → Lining n left p q → left ≡ 0 → Put p (peer_lines n) q
+lines_all {n} {q = q} v e = v.all q (rw (e, rising_empty (λ i. peer_line n (peer i)) 32) (put_none q))
 
 -- A short buffer is left as it was.
 pub reported_none : (number place accepted : ℕ) (n : Network) (shown : Bool) (l : List ℕ) → length l < 1024 → Reported number place accepted n shown l l 0
@@ -93,30 +95,32 @@ unfolding put_in count_in
 reported_none number place accepted n shown l h =
     record { count = rw (lt-ltb (length l) 1024 h); bytes = rw (lt-ltb (length l) 1024 h); room = omega arith }
 
--- What was written from the start on is what is promised.
-reported : {l r : List ℕ} {j : ℕ} (number place accepted : ℕ) (n : Network) (shown : Bool) → 1024 ≤ length l → j ≤ 1024
-    → Wrote l 0 (report_of number place accepted n shown) r j → Reported number place accepted n shown l r j
+-- What was put from the start on is what is promised.
+reported : {p q : Page} {r : List ℕ} (number place accepted : ℕ) (n : Network) (shown : Bool) → 1024 ≤ length p.out.now → p.at ≡ 0
+    → Put p (report_of number place accepted n shown) q → q.at ≤ 1024 → r ≡ q.out.now → Reported number place accepted n shown p.out.now r q.at
 unfolding put_in count_in
-reported {l} number place accepted n shown e h w =
-    let f = wrote_front (omega arith) w in
+reported {p} number place accepted n shown e z w h er =
+    let f = wrote_front (omega arith) (rw z at w.wrote) in
     record {
-      count = rw (le-ltb (length l) 1024 e) f.0;
-      bytes = rw (le-ltb (length l) 1024 e) (f.1 ∙ rw f.0);
+      count = rw (le-ltb (length p.out.now) 1024 e) f.0;
+      bytes = rw (le-ltb (length p.out.now) 1024 e) (er ∙ f.1 ∙ rw f.0);
       room = h;
     }
 
 -- The first line alone.
-pub reported_first : {l r : List ℕ} {j : ℕ} (number place accepted : ℕ) (n : Network) (shown : Bool) → 1024 ≤ length l → shown ≡ false
-    → Wrote l 0 (first_line number place accepted) r j → j ≤ 52 → Reported number place accepted n shown l r j
+pub reported_first : {p q q' : Page} {r : List ℕ} (number place accepted : ℕ) (n : Network) (shown : Bool) → 1024 ≤ length p.out.now → p.at ≡ 0 → shown ≡ false
+    → Put p (first_line number place accepted) q → q.at ≤ p.at + 52 → q' ≡ q → r ≡ q'.out.now → Reported number place accepted n shown p.out.now r q'.at
 unfolding report_of
-reported_first number place accepted n shown e h w b =
-    reported number place accepted n shown e (omega arith) (rw (h, append-nil (first_line number place accepted)) w)
+reported_first {p} {q' = q'} number place accepted n shown e z h w b eq er =
+    reported {p = p} {q = q'} number place accepted n shown e z (rw (h, append-nil (first_line number place accepted), eq) w) (rw eq (omega arith)) er
 
 -- The first line and the peers.
-pub reported_all : {l r s : List ℕ} {i j : ℕ} (number place accepted : ℕ) (n : Network) (shown : Bool) → 1024 ≤ length l → shown ≡ true
-    → Wrote l 0 (first_line number place accepted) r i → Wrote r i (peer_lines n) s j → j ≤ 596 → Reported number place accepted n shown l s j
+pub reported_all : {p q s s' : Page} {r : List ℕ} (number place accepted : ℕ) (n : Network) (shown : Bool) → 1024 ≤ length p.out.now → p.at ≡ 0 → shown ≡ true
+    → Put p (first_line number place accepted) q → q.at ≤ p.at + 52 → Put q (peer_lines n) s → s.at ≤ q.at + 544 → s' ≡ s → r ≡ s'.out.now
+    → Reported number place accepted n shown p.out.now r s'.at
 unfolding report_of
-reported_all number place accepted n shown e h v w b = reported number place accepted n shown e (omega arith) (rw h (wrote_then v w))
+reported_all {p} {s' = s'} number place accepted n shown e z h v a w b eq er =
+    reported {p = p} {q = s'} number place accepted n shown e z (rw (h, eq) (put_then v w)) (rw eq (omega arith)) er
 
 -- ---- what the promise of `report` comes to
 

@@ -6,62 +6,60 @@
 // the answer is 0, and what is printed is never longer than 596 bytes (proofs/ReportLaws.antt).
 //
 // Read on: specs/Text.antt (decimals), specs/Report.antt (the lines); their laws in specs/laws/TextLaws.antt and proofs/ReportLaws.antt; 01's example in
-// specs/laws/Examples.antt; src/text.rt (writing bytes and numbers at a place of the buffer, specs/Write.antt).
+// specs/laws/Examples.antt; src/text.rt (a page: the buffer and the place up to which it is written, specs/Write.antt).
 #![tactic(auto)]
 
 mod text;
 
 ghost use Rattle.std.specs.Prelude.{◌≡◌, ◌+◌, ◌≤◌, ◌<◌, length};
 ghost use Rattle.network.specs.Network.{peer};
-ghost use Rattle.report.specs.Write.{Wrote};
+ghost use Rattle.report.specs.Write.{Put};
 ghost use Rattle.report.specs.Report.{first_line, peer_line, peer_lines, shown_for, Reported};
 
 use network::Network;
 use sets::Word;
+use text::Page;
 
 // "`FLOOD `, then number, place, accepted".
 #[tactic(auto, using(crate::specs::laws::TextLaws::length_byte, crate::specs::laws::TextLaws::spaced_long))]
-fn first_line(out: &mut [u8], number: u8, place: usize, accepted: usize) -> usize
-    requires { 52 ≤ length out.old }
-    ensures line { Wrote out.old 0 (first_line number place accepted) out.new result }
-    ensures bound { result ≤ 52 }
+fn first_line(page: &mut Page, number: u8, place: usize, accepted: usize)
+    requires { page.old.at + 52 ≤ length page.old.out.now }
+    ensures line { Put page.old (first_line number place accepted) page.new }
+    ensures bound { page.new.at ≤ page.old.at + 52 }
 {
-    let word = text::copy(out, 0, b"FLOOD ");
-    let first = text::number(out, word, number as usize);
-    let second = text::spaced(out, first, place);
-    let third = text::spaced(out, second, accepted);
-    text::newline(out, third)
+    page.put(b"FLOOD ");
+    page.number(number as usize);
+    page.spaced(place);
+    page.spaced(accepted);
+    page.newline();
 }
 
 // "`PEER `, its number, and how many topics it subscribes to, messages are pending, messages seen".
 #[tactic(auto, using(crate::specs::laws::TextLaws::length_count, crate::specs::laws::TextLaws::spaced_count))]
-fn peer_line(out: &mut [u8], at: usize, n: &Network, p: u32) -> usize
+fn peer_line(page: &mut Page, n: &Network, p: u32)
     requires fits { p < 32 }
-    requires room { at + 17 ≤ length out.old }
-    ensures line { Wrote out.old at (peer_line n.now (peer p)) out.new result }
-    ensures bound { result ≤ at + 17 }
+    requires room { page.old.at + 17 ≤ length page.old.out.now }
+    ensures line { Put page.old (peer_line n.now (peer p)) page.new }
+    ensures bound { page.new.at ≤ page.old.at + 17 }
 {
     let i = p as usize;
-    let word = text::copy(out, at, b"PEER ");
-    let first = text::number(out, word, i);
-    let second = text::spaced(out, first, n.subs[i].size() as usize);
-    let third = text::spaced(out, second, n.pending[i].size() as usize);
-    let fourth = text::spaced(out, third, n.seen[i].size() as usize);
-    text::newline(out, fourth)
+    page.put(b"PEER ");
+    page.number(i);
+    page.spaced(n.subs[i].size() as usize);
+    page.spaced(n.pending[i].size() as usize);
+    page.spaced(n.seen[i].size() as usize);
+    page.newline();
 }
 
 // "for each present peer rising".
-fn peer_lines(out: &mut [u8], at: usize, n: &Network) -> usize
-    requires place { at ≤ 52 }
-    requires room { 596 ≤ length out.old }
-    ensures lines { Wrote out.old at (peer_lines n.now) out.new result }
-    ensures bound { result ≤ 596 }
+fn peer_lines(page: &mut Page, n: &Network)
+    requires { page.old.at + 544 ≤ length page.old.out.now }
+    ensures lines { Put page.old (peer_lines n.now) page.new }
+    ensures bound { page.new.at ≤ page.old.at + 544 }
 {
-    let mut next = at;
     for p in n.present.members() {
-        next = peer_line(out, next, n, p);
+        peer_line(page, n, p);
     }
-    next
 }
 
 // "For 0 and any refused event": is a run's number followed by the peers?
@@ -86,6 +84,10 @@ pub fn report(
     if out.len() < 1024 {
         return 0;
     }
-    let first = first_line(out, number, place, accepted);
-    if show { peer_lines(out, first, n) } else { first }
+    let mut page = Page { out, at: 0 };
+    first_line(&mut page, number, place, accepted);
+    if show {
+        peer_lines(&mut page, n);
+    }
+    page.at
 }

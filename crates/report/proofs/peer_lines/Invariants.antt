@@ -3,4 +3,4 @@ use Rattle.report.proofs.ReportLaws.{Lining}
 use Rattle.report.proofs.peer_lines.Given as goal
 
 abbrev pub invariant-loop-p : goal.invariant-loop-p
-invariant-loop-p l = Lining l.n l.p-iterator.left l.initial.out l.at l.out l.next
+invariant-loop-p l = Lining l.n l.p-iterator.left l.initial.page l.page

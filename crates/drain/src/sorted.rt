@@ -37,6 +37,7 @@ fn by_topic(table: &Table, s: u64) -> [u64; 32]
 }
 
 // The messages of w become pending at each peer of s that has not seen them. (A word of 64 bits for those left: floodnet's src/arrays.rt.)
+#[tactic(auto, using(sets::proofs::laws::Lowest::taken_below))]
 fn give_set(pending: &mut [u64; 32], seen: &[u64; 32], s: u32, w: u64)
     ensures pending_after { pending.new ≡ edit (gives w seen.now s) pending.old }
     ensures s_bound { s < 2 ^ 32 }

@@ -10,10 +10,6 @@ use Rattle.sets.proofs.laws.Lowest.{takes_narrow}
 use Rattle.sets.proofs.laws.Visits.{Visit, visit_put, visit_done}
 use Rattle.floodnet.specs.Lent.{holding}
 
--- A member that a step takes from a set of numbers below 32, which stands in a word of 64 bits, is below 32.
-pub taken_below : {w q w' : ℕ} → w < 2 ^ 32 → Takes 64 w q w' → q < 32
-taken_below h t = (takes_narrow h t).below
-
 -- ---- `lacking`: those of s that have m neither pending nor seen
 
 -- q has it neither pending nor seen

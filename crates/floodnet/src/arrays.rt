@@ -13,7 +13,7 @@ use network::{Message, Peer};
 use sets::Word;
 
 // Those of s that have m neither pending nor seen: the members of s are visited, and no branch depends on who holds what.
-#[tactic(auto, using(crate::proofs::CodeArrays::taken_below))]
+#[tactic(auto, using(sets::proofs::laws::Lowest::taken_below))]
 pub(crate) fn lacking(pending: &[u64; 32], seen: &[u64; 32], s: u32, m: Message) -> u32
     requires { m.0 < 64 }
     ensures { result ≡ minus s (sift 32 s (holding pending.now seen.now m.0)) }
@@ -29,7 +29,7 @@ pub(crate) fn lacking(pending: &[u64; 32], seen: &[u64; 32], s: u32, m: Message)
 
 // m becomes pending at each peer of r: "take the receiving set's lowest member, found by the count of trailing zeros, until the set
 // is empty" (document 02, E4).
-#[tactic(auto, using(crate::proofs::CodeArrays::taken_below))]
+#[tactic(auto, using(sets::proofs::laws::Lowest::taken_below))]
 pub(crate) fn give(pending: &mut [u64; 32], r: u32, m: Message)
     requires { m.0 < 64 }
     ensures { pending.new ≡ visits (λ q. puts (only m.0)) (members 32 r) pending.old }

@@ -71,6 +71,7 @@ pub(crate) fn near_absent(listed: u32, present: u32) -> Option<u32>
 
 // The lowest of the peers listed that doesn't list p. (Those left stand in a word of 64 bits: some machines take the least from it in a
 // step less, docs/BENCH.md.)
+#[tactic(auto, using(sets::proofs::laws::Lowest::taken_below))]
 pub(crate) fn list_back(neighbours: &[u32; 32], listed: u32, p: Peer) -> Option<u32>
     requires { p.0 < 32 }
     ensures { Found 32 result (list_back neighbours.now listed p) }

@@ -1,9 +1,9 @@
 -- The image in observations; two Broadcastnet states are one if they show the same. Assumes nothing.
-use Rattle.std.specs.Prelude.{◌≡◌, Bool, true, false, not, ◌&&◌, ◌||◌, List, ℕ, zero, suc, ◌^◌, ◌≤◌, ◌<◌, eqb, length, get_or, replicate}
-use Rattle.std.proofs.Common.{sym, ap, ◌∙◌, arith, ext_get_or}
+use Rattle.std.specs.Prelude.{◌≡◌, Bool, true, false, not, ◌&&◌, ◌||◌, List, ℕ, zero, suc, ◌+◌, ◌^◌, ◌≤◌, ◌<◌, eqb, length, get_or, replicate}
+use Rattle.std.proofs.Common.{sym, ap, ◌∙◌, add-one, arith, ext_get_or}
 use Rattle.std.proofs.Math.Bool.{and-true}
 use Rattle.std.proofs.Math.Decide.{dec_lt}
-use Rattle.sets.specs.Set.{has, minus, set_of}
+use Rattle.sets.specs.Set.{has, union, minus, set_of}
 use Rattle.sets.specs.Any.{any}
 use Rattle.sets.proofs.laws.Any.{any_yes, any_none}
 use Rattle.sets.proofs.laws.Members.{has_union, has_minus, has_none, ext}
@@ -58,6 +58,11 @@ has_together (suc k) l i = has_union (together k l) (get_or l k 0) i ∙ ap (λ 
 pub has_underway : (n : Network) (m : Message) → has (underway n) m.0 ≡ somewhere n m
 unfolding underway somewhere
 has_underway n m = has_together 32 n.pending m.0
+
+-- A loop that joins them one by one: one word more.
+pub together_more : {w r : ℕ} (k : ℕ) (l : List ℕ) → w ≡ together k l → r ≡ union w (get_or l k 0) → r ≡ together (k + 1) l
+unfolding together
+together_more k l e h = h ∙ ap (λ (x : ℕ). union x (get_or l k 0)) e ∙ sym (ap (λ (x : ℕ). together x l) (add-one k))
 
 -- Sets filled in from the front, each without w, are in the end all of them without w.
 pub without_filled : (w : ℕ) (l : List ℕ) {r : List ℕ} → length l ≡ 32 → Filled 32 (λ (i : ℕ). minus (get_or l i 0) w) 32 r → r ≡ without w l

@@ -1,13 +1,14 @@
 -- Laws of specs/Pairs.antt. Assumes nothing.
-use Rattle.std.specs.Prelude.{◌≡◌, refl, Bool, true, cond, ◌&&◌, eqb, get_or}
+use Rattle.std.specs.Prelude.{◌≡◌, refl, ◌⊎◌, Bool, true, cond, ◌&&◌, eqb, get_or}
 use Rattle.std.proofs.Math.Path.{sym, ap}
-use Rattle.std.proofs.Common.{◌∙◌, ap₂, eqb-true, eq-eqb}
+use Rattle.std.proofs.Common.{◌∙◌, ap₂, inl, inr, ⊎_elim, eqb-true, eq-eqb}
 use mathlib.Core.List.{List, [], ◌∷◌, ◌++◌}
-use Prim.Native.Nat.{ℕ, zero, suc, ◌+◌, ◌^◌, ◌<◌}
+use Prim.Native.Nat.{ℕ, zero, suc, ◌+◌, ◌-◌, ◌^◌, ◌≤◌, ◌<◌}
+use Rattle.std.proofs.Math.Nat.{sub-zero, eq-zero-or-pos}
 use native.Mathlib.Omega.{arith}
 use Rattle.std.proofs.Math.ListN.{length, take, length-take}
 use Rattle.std.proofs.Math.Seq.{take-nil}
-use Rattle.sets.specs.Set.{has, only, lowest, count, digit}
+use Rattle.sets.specs.Set.{has, minus, only, lowest, count, digit}
 use Rattle.sets.specs.Rising.{rising, Takes}
 use Rattle.sets.proofs.laws.Bools.{bool_ext, and_both, and_yes}
 use Rattle.sets.proofs.laws.Members.{has_none}
@@ -25,41 +26,62 @@ use Rattle.drain.specs.Pairs.{pairs_of, list_of}
 pub pairs_count : (p w : ℕ) → length (pairs_of p w 64) ≡ count 64 (has w)
 pairs_count p w = length_rising (λ m. pair p m ∷ []) (λ m. refl) 64 w
 
--- Without messages there are no pairs; and where there are more than are taken, as many are taken as were asked for.
-pub pairs_none : (p left : ℕ) → take left (pairs_of p 0 64) ≡ []
-pairs_none p left = rw (rising_empty (λ i. pair p i ∷ []) 64) (take-nil left)
+-- After the last of the first n: n are left to forward no more, or no message is.
+pub walk_last : {rest left n : ℕ} {A : Type 0} → n ≤ left → (0 < n → (rest ≡ 0) × A) → (rest ≡ 0) ⊎ (left - n ≡ left)
+walk_last {n = n} b h = ⊎_elim (λ z. inr (omega arith)) (λ x. inl (h x).0) (eq-zero-or-pos n)
 
+-- Where there are more than are taken, as many are taken as were asked for.
 pub pairs_taken : (p todo left : ℕ) {k : ℕ} → k ≡ count 64 (has todo) → left < k → left ≡ length (take left (pairs_of p todo 64))
 pairs_taken p todo left h l = omega (arith, length-take left (pairs_of p todo 64), pairs_count p todo)
 
--- What such a loop keeps: of the pairs of `rest` the first n are still to be forwarded; then all is done.
+-- What such a loop keeps: the pairs of `rest` are still to be forwarded, as far as what is left of the budget goes; then all is done.
 module _ {S : Type 0} (fwd : S → ℕ → ℕ → S) (start : S) (p todo left : ℕ) where
-  pub record Walk (now : S) (rest n : ℕ) : Type 0 where
+  pub record Walk (now : S) (rest made : ℕ) : Type 0 where
     pub below : rest < 2 ^ 64
-    pub state : run fwd now (take n (pairs_of p rest 64)) ≡ run fwd start (take left (pairs_of p todo 64))
+    pub within : made ≤ left
+    pub state : run fwd now (take (left - made) (pairs_of p rest 64)) ≡ run fwd start (take left (pairs_of p todo 64))
+    pub count : made + length (take (left - made) (pairs_of p rest 64)) ≡ length (take left (pairs_of p todo 64))
 
   -- before the loop
-  pub walk_none : {rest n : ℕ} → todo < 2 ^ 64 → rest ≡ todo → n ≡ left → Walk start rest n
-  walk_none h e f = rw (e, f) (record { below = h; state = refl })
+  pub walk_none : todo < 2 ^ 64 → Walk start todo 0
+  walk_none h =
+      record {
+        below = h;
+        within = omega arith;
+        state = rw (sub-zero left);
+        count = rw (sub-zero left) (omega arith);
+      }
 
   -- one forward more, of the least that is left
-  pub walk_more : {now now' : S} {rest rest' n n' m : ℕ} → Walk now rest n → n ≡ suc n' → Takes 64 rest m rest' → now' ≡ fwd now p m → Walk now' rest' n'
+  pub walk_more : {now now' : S} {rest rest' made m : ℕ} → Walk now rest made → made < left → Takes 64 rest m rest'
+      → now' ≡ fwd now p m → Walk now' rest' (made + 1)
   unfolding run
-  walk_more {now} {now'} {rest} {rest'} {n} {n'} {m} v k t e = record {
-    below = rw t.rest (minus_lt 64 rest (only (lowest 64 rest)) v.below);
-    state = rw e (ap (λ (x : List Pair). run fwd now x) (sym front) ∙ v.state);
-  }
+  walk_more {now} {now'} {rest} {rest'} {made} {m} v l t e =
+      record {
+        below = rw t.rest (minus_lt 64 rest (only (lowest 64 rest)) v.below);
+        within = omega arith;
+        state = rw e (ap (λ (x : List Pair). run fwd now x) (sym front) ∙ v.state);
+        count = omega (arith, ap length front, v.count);
+      }
     where
-      front : take n (pairs_of p rest 64) ≡ pair p m ∷ take n' (pairs_of p rest' 64)
-      front = rw (k, rising_lowest (λ i. pair p i ∷ []) 64 rest t.some v.below, t.least, t.rest)
+      front : take (left - made) (pairs_of p rest 64) ≡ pair p m ∷ take (left - (made + 1)) (pairs_of p rest' 64)
+      front =
+          let k : left - made ≡ suc (left - (made + 1)) = omega arith in
+          rw (k, rising_lowest (λ i. pair p i ∷ []) 64 rest t.some v.below, t.least, t.rest)
 
   -- after it: nothing is left, or the budget is spent
-  pub walk_done : {now : S} {rest n : ℕ} → Walk now rest n → (0 < n → rest ≡ 0) → now ≡ run fwd start (take left (pairs_of p todo 64))
+  pub walk_done : {now : S} {rest made : ℕ} → Walk now rest made → (rest ≡ 0) ⊎ (made ≡ left)
+      → (made ≡ length (take left (pairs_of p todo 64))) × (now ≡ run fwd start (take left (pairs_of p todo 64)))
   unfolding run
-  walk_done {now} {rest} {n = zero} v o = v.state
-  walk_done {now} {rest} {n = suc n} v o =
-      let e : take (suc n) (pairs_of p rest 64) ≡ [] = rw (o (omega arith)) (pairs_none p (suc n)) in
-      sym (ap (λ (x : List Pair). run fwd now x) e) ∙ v.state
+  walk_done {now} {rest} {made} v o =
+      let e : take (left - made) (pairs_of p rest 64) ≡ [] = empty o in
+      (omega (arith, ap length e, v.count), sym (ap (λ (x : List Pair). run fwd now x) e) ∙ v.state)
+    where
+      empty : (rest ≡ 0) ⊎ (made ≡ left) → take (left - made) (pairs_of p rest 64) ≡ []
+      empty (inl d) = rw (d, rising_empty (λ i. pair p i ∷ []) 64) (take-nil (left - made))
+      empty (inr d) =
+          let k : left - made ≡ 0 = omega arith in
+          rw k
 
 -- ---- how many are pending
 

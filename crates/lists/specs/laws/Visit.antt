@@ -8,6 +8,7 @@ use Rattle.sets.specs.Set.{has, only, when, lowest}
 use Rattle.sets.specs.Rising.{rising, members, Takes}
 use Rattle.sets.proofs.laws.Bools.{bool_ext}
 use Rattle.sets.proofs.laws.Bounds.{has_out, minus_lt}
+use Rattle.sets.proofs.laws.Lowest.{takes_narrow}
 use Rattle.sets.proofs.laws.Rising.{rising_empty, members_takes}
 use Rattle.lists.specs.Edit.{edit}
 use Rattle.lists.specs.Visit.{visits}
@@ -76,6 +77,11 @@ visiting_more {k} {left = left} {f = f} {l = l} a t ev = record {
   below = rw t.rest (minus_lt k left (only (lowest k left)) a.below);
   same = rw ev (sym (ap (λ (x : List ℕ). visits f x l) (members_takes t)) ∙ a.same);
 }
+
+-- the same, where those left, numbers below 32, stand in a word of 64 bits
+pub visiting_wide : {s left left' q v : ℕ} {f : ℕ → ℕ → ℕ} {l₀ l : List ℕ} → Visiting 32 s left f l₀ l → Takes 64 left q left'
+    → v ≡ f q (get_or l q 0) → Visiting 32 s left' f l₀ (set l q v)
+visiting_wide a t ev = visiting_more a (takes_narrow a.below t) ev
 
 -- after the last turn
 pub visiting_done : {k s left : ℕ} {f : ℕ → ℕ → ℕ} {l₀ l : List ℕ} → Visiting k s left f l₀ l → left ≡ 0 → l ≡ visits f (members k s) l₀

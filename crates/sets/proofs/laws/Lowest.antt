@@ -68,14 +68,14 @@ lowest_is k w t h e none =
 -- ---- a set of numbers below 32 in a word of 64 bits
 
 -- It has the same least member, which is below 32.
-least_narrow : {w q : ℕ} → 0 < w → w < 2 ^ 32 → q ≡ lowest 64 w → (q ≡ lowest 32 w) × (q < 32)
+pub least_narrow : {w q : ℕ} → 0 < w → w < 2 ^ 32 → q ≡ lowest 64 w → (q ≡ lowest 32 w) × (q < 32)
 least_narrow {w} {q} p h e = (e ∙ same, omega (arith, e, same, lowest_lt 32 w p h))
   where
     same : lowest 64 w ≡ lowest 32 w
     same = lowest_is 64 w (lowest 32 w) (omega arith) (lowest_has 32 w p h) (lowest_least 32 w)
 
 -- And the same others.
-rest_narrow : {w r : ℕ} → 0 < w → w < 2 ^ 32 → r ≡ minus w (only (lowest 64 w)) → r ≡ minus w (only (lowest 32 w))
+pub rest_narrow : {w r : ℕ} → 0 < w → w < 2 ^ 32 → r ≡ minus w (only (lowest 64 w)) → r ≡ minus w (only (lowest 32 w))
 rest_narrow {w} p h e = e ∙ ap (λ (x : ℕ). minus w (only x)) (least_narrow p h refl).0
 
 -- A step through a set of numbers below 32 that stands in a word of 64 bits is a step through it.
@@ -83,6 +83,10 @@ pub takes_narrow : {w q w' : ℕ} → w < 2 ^ 32 → Takes 64 w q w' → Takes 3
 takes_narrow h t =
     let l = least_narrow t.some h t.least in
     record { some = t.some; least = l.0; below = l.1; rest = rest_narrow t.some h t.rest }
+
+-- So what it takes is below 32.
+pub taken_below : {w q w' : ℕ} → w < 2 ^ 32 → Takes 64 w q w' → q < 32
+taken_below h t = (takes_narrow h t).below
 
 -- A step takes a member.
 pub takes_has : {k w q w' : ℕ} → w < 2 ^ k → Takes k w q w' → has w q ≡ true

@@ -1,8 +1,7 @@
 -- `floodnet::arrays::give` meets its contract. Assumes nothing.
 use Rattle.std.proofs.Common.{rules}
 use Rattle.sets.specs.Set.{puts}
-use Rattle.sets.proofs.laws.Lowest.{takes_narrow}
-use Rattle.lists.specs.laws.Visit.{visiting_none, visiting_more, visiting_done}
+use Rattle.lists.specs.laws.Visit.{visiting_none, visiting_wide, visiting_done}
 use Rattle.floodnet.proofs.arrays.give.Goals as goal
 
 pub loop-q-init : goal.loop-q-init
@@ -11,7 +10,7 @@ loop-q-init c = visiting_none (search rules) (search rules)
 pub loop-q-preserved : goal.loop-q-preserved
 unfolding puts
 loop-q-preserved c =
-    visiting_more c.loop-q.invariant (takes_narrow c.loop-q.invariant.below c.in-Some.ensures.steps)
+    visiting_wide c.loop-q.invariant c.in-Some.ensures.steps
     c.with.ensures
 
 pub returns : goal.returns

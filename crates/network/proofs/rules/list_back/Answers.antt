@@ -1,14 +1,10 @@
 -- `network::rules::list_back` meets its contract. Assumes nothing.
 use Rattle.std.proofs.Common.{rules, sym, ◌∙◌}
-use Rattle.sets.proofs.laws.Lowest.{takes_narrow}
 use Rattle.network.proofs.ListingBack.{backs_none, backs_more, backs_all, backs_not}
 use Rattle.network.proofs.rules.list_back.Goals as goal
 
 pub loop-q-init : goal.loop-q-init
 loop-q-init c = backs_none (search rules) (search rules)
-
-pub bounds-neighbours-q : goal.bounds-neighbours-q
-bounds-neighbours-q c = (takes_narrow c.loop-q.invariant.below c.in-Some.ensures.steps).below
 
 pub returns-then-not-has : goal.returns-then-not-has
 returns-then-not-has c = backs_not c.loop-q.invariant c.in-Some.ensures.steps (sym c.has.ensures ∙ c.if-not-has.true)

@@ -6,7 +6,7 @@ use crate::Begun;
 use network::{Network, Refusal, Refused, Table};
 
 // Reads the network and the table, or refuses. `events` is the length of the event bytes; 0 where there are none.
-pub fn start(
+pub(crate) fn start(
     state: &[u8],
     table: &[u8],
     events: usize,

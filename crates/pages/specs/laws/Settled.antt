@@ -8,11 +8,11 @@ use Rattle.engine.specs.declared.Drained.{Drained}
 use Rattle.engine.specs.Run.{Ran, Final, RunsTo, Ending, Ends}
 use Rattle.engine.specs.laws.DrainingLaws.{Ended}
 
--- `relay_run`, `run_core`: the answer, the state's bytes and the tally
+-- `relay_run`: the answer, the state's bytes and the tally
 pub settled_ends : {r q : Answer} {s u : List ℕ} {t w : Tally} {e : Ending} → Ends r s t e → Ends q u w e → (r ≡ q) × (s ≡ u) × (t ≡ w)
 settled_ends x y = (settled x.answer y.answer, settled x.state y.state, settled x.tally y.tally)
 
--- `run_events`, `run_parts`: the answer, the network and the tally
+-- `run_events`: the answer, the network and the tally
 pub settled_runs : {r q : Ran} {t w : Tally} {f : Final} → RunsTo r t f → RunsTo q w f → (r ≡ q) × (t ≡ w)
 settled_runs {r} {q} x y =
     let a : r.answer ≡ q.answer = settled x.answer y.answer in

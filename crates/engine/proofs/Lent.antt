@@ -21,7 +21,7 @@ use Rattle.floodnet.specs.Forward.{moved, given, forwarded}
 use Rattle.engine.specs.Start.{refused_at, begun_as, begin_of}
 use Rattle.engine.specs.laws.StartLaws.{begin_4, begin_unsound, begin_0}
 use Rattle.engine.specs.laws.ForwardAlone.{forward_event}
-use Rattle.network.specs.laws.Refusal.{refusal_not_0}
+use Rattle.network.specs.laws.Numbers.{refusal_not_0}
 
 -- what was opened, by the numbers of the answer
 pub opened_is : {A : Type 0} {s : List ℕ} {old n : Network} {r : Result A Refused} → Opens s old r n

@@ -11,7 +11,7 @@ use Rattle.floodnet.specs.Step.{refusal, effect, if_accepted, after, receivers_o
 use Rattle.floodnet.specs.declared.Turned.{Turned}
 use Rattle.engine.specs.Run.{turn_of}
 use Rattle.events.specs.Event.{Read}
-use Rattle.network.specs.laws.Refusal.{refusal_not_0}
+use Rattle.network.specs.laws.Numbers.{refusal_not_0}
 
 -- an accepted event; a refused one
 pub turned_ok : (t : Turned) {to : ℕ} → t.outcome ≡ Ok to → ((numbered t).number ≡ 0) × ((numbered t).receivers ≡ to)

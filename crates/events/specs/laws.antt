@@ -3,7 +3,6 @@ pub mod Bytes
 pub mod Decoded
 pub mod Examples
 pub mod Fits
-pub mod Numbers
 pub mod ReadingLaws
 pub mod RoundTrip
 pub mod Settled

@@ -4,38 +4,15 @@ use Rattle.std.proofs.Common.{sym, ap, arith}
 use Rattle.network.specs.declared.Network.{Network}
 use Rattle.network.specs.declared.Table.{Table}
 use Rattle.network.specs.declared.refusal.Refusal.{Refusal}
-use Rattle.network.specs.declared.refusal.Refusal.TheVariants.{StateLength, TableLength, EventsLength, BadRow, UnknownCode, Unfit, PeerAbsent, PeerPresent, NotOrigin, NotPublished, NotNew, NotPending, StillPending, NamesItself, NamesAbsent, InputLength, ImageLength, BadHead, AbsentNotEmpty, OwnNeighbour, NeighbourAbsent, NotListedBack, KnownWrong, PendingSeen}
 use Rattle.network.specs.Refusal.{number_of}
+use Rattle.network.specs.laws.Numbers.{refusal_not_0}
 use Rattle.events.specs.declared.Event.{Event}
 use Rattle.events.specs.Kind.{kind_of}
 use Rattle.floodnet.specs.Step.{refusal, effect, if_accepted, after, receivers_of, turned, turned_of}
 
 -- no refusal has the number 0
 pub number_some : (r : Refusal) → 0 < number_of r
-number_some StateLength = omega arith
-number_some TableLength = omega arith
-number_some EventsLength = omega arith
-number_some BadRow = omega arith
-number_some UnknownCode = omega arith
-number_some Unfit = omega arith
-number_some PeerAbsent = omega arith
-number_some PeerPresent = omega arith
-number_some NotOrigin = omega arith
-number_some NotPublished = omega arith
-number_some NotNew = omega arith
-number_some NotPending = omega arith
-number_some StillPending = omega arith
-number_some NamesItself = omega arith
-number_some NamesAbsent = omega arith
-number_some InputLength = omega arith
-number_some ImageLength = omega arith
-number_some BadHead = omega arith
-number_some AbsentNotEmpty = omega arith
-number_some OwnNeighbour = omega arith
-number_some NeighbourAbsent = omega arith
-number_some NotListedBack = omega arith
-number_some KnownWrong = omega arith
-number_some PendingSeen = omega arith
+number_some r = omega (arith, refusal_not_0 r)
 
 -- a refused event changes nothing
 pub after_refused : (n : Network) (b : Table) (e : Event) → 0 < refusal n b e → after n b e ≡ n

@@ -1,7 +1,7 @@
 -- `console::run` meets its contract. Assumes nothing.
 use mathlib.Core.Path.{refl}
 use Rattle.engine.specs.laws.StartFacts.{started_rows}
-use Rattle.network.specs.laws.Refusal.{refusal_not_0}
+use Rattle.network.specs.laws.Numbers.{refusal_not_0}
 use Rattle.console.proofs.ConsoleLaws.{printed_as, printed_report, text_refused, text_run}
 use Rattle.engine.specs.Run.{ran}
 use Rattle.console.proofs.run.Goals as goal

@@ -3,7 +3,7 @@ use mathlib.Core.Path.{refl}
 use Rattle.engine.proofs.RunEnds.{ends_refused, ends_written, ends_run}
 use Rattle.engine.specs.laws.StartFacts.{started_rows, started_long}
 use Rattle.engine.proofs.relay_run.Goals as goal
-use Rattle.network.specs.laws.Refusal.{refusal_not_0}
+use Rattle.network.specs.laws.Numbers.{refusal_not_0}
 
 pub returns-in-Err : goal.returns-in-Err
 returns-in-Err c = ends_refused _ _ _ _ c.in-Err.ensures (refusal_not_0 _) c.refused.ensures

@@ -6,7 +6,7 @@ use Rattle.sets.proofs.laws.Bools.{clash}
 use Rattle.events.specs.declared.Fields.{Fields}
 use Rattle.events.specs.declared.Event.{Event}
 use Rattle.network.specs.declared.refusal.Refusal.{Refusal}
-use Rattle.events.specs.laws.Numbers.{refusal_of, refusal_of_number}
+use Rattle.network.specs.laws.Numbers.{refusal_of, refusal_of_number}
 use Rattle.events.specs.Event.{Read, Reading, taken, refused, ended, reading_of, read_of, or_seven, decode_of, fields_at, reading_at, read_at}
 
 -- a case is found again from its reading, by its number

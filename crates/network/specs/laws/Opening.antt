@@ -14,7 +14,7 @@ use Rattle.network.specs.declared.Checked.{Checked}
 use Rattle.network.specs.declared.Refused.{Refused}
 use Rattle.network.specs.laws.Faults.{verdict_tab}
 use Rattle.network.specs.State.{word_in, long_in, known_in, net_of, verdict_at, blank_net, Opened, opened, opened_by, read_as, open_of, over_of, Opens}
-use Rattle.network.specs.laws.Refusal.{refusal_not_0}
+use Rattle.network.specs.laws.Numbers.{refusal_not_0}
 
 -- the columns make the network
 pub net_is : (b : List ℕ) {present : ℕ} {heads pubs subs neighbours pending seen known : List ℕ}

@@ -10,33 +10,6 @@ use Rattle.network.specs.declared.Network.{Network}
 use Rattle.network.specs.declared.Peer.{Peer}
 use Rattle.network.specs.Rules.{detail_of}
 
--- "0 | done": no refusal has the number 0
-pub refusal_not_0 : (r : Refusal) → number_of r ≡ 0 → ⊥
-refusal_not_0 StateLength e = absurd (omega arith)
-refusal_not_0 TableLength e = absurd (omega arith)
-refusal_not_0 EventsLength e = absurd (omega arith)
-refusal_not_0 BadRow e = absurd (omega arith)
-refusal_not_0 UnknownCode e = absurd (omega arith)
-refusal_not_0 Unfit e = absurd (omega arith)
-refusal_not_0 PeerAbsent e = absurd (omega arith)
-refusal_not_0 PeerPresent e = absurd (omega arith)
-refusal_not_0 NotOrigin e = absurd (omega arith)
-refusal_not_0 NotPublished e = absurd (omega arith)
-refusal_not_0 NotNew e = absurd (omega arith)
-refusal_not_0 NotPending e = absurd (omega arith)
-refusal_not_0 StillPending e = absurd (omega arith)
-refusal_not_0 NamesItself e = absurd (omega arith)
-refusal_not_0 NamesAbsent e = absurd (omega arith)
-refusal_not_0 InputLength e = absurd (omega arith)
-refusal_not_0 ImageLength e = absurd (omega arith)
-refusal_not_0 BadHead e = absurd (omega arith)
-refusal_not_0 AbsentNotEmpty e = absurd (omega arith)
-refusal_not_0 OwnNeighbour e = absurd (omega arith)
-refusal_not_0 NeighbourAbsent e = absurd (omega arith)
-refusal_not_0 NotListedBack e = absurd (omega arith)
-refusal_not_0 KnownWrong e = absurd (omega arith)
-refusal_not_0 PendingSeen e = absurd (omega arith)
-
 -- "23 to 25 also give the lowest peer or topic at fault (0 otherwise)"
 pub detail_else : (r : Refusal) (n : Network) (p : Peer) → (r ≡ NeighbourAbsent → ⊥) → (r ≡ NotListedBack → ⊥) → (r ≡ KnownWrong → ⊥) → 0 ≡ detail_of (number_of r) n p
 unfolding detail_of

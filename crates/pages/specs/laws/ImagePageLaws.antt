@@ -32,7 +32,7 @@ use Rattle.pages.specs.RunPage.{net_in, table_in, RunDone}
 use Rattle.pages.specs.laws.RunPageLaws.{turn_refused, page_turn, run_page}
 use Rattle.pages.specs.ImagePage.{Imaged, ImagesAlong, ImagePage}
 use Rattle.events.specs.Event.{Read, read_at}
-use Rattle.network.specs.laws.Refusal.{refusal_not_0}
+use Rattle.network.specs.laws.Numbers.{refusal_not_0}
 use Rattle.events.specs.laws.RoundTrip.{read_fits}
 use Rattle.events.specs.laws.ReadingLaws.{never_ended}
 

@@ -10,7 +10,8 @@ use Rattle.engine.specs.laws.StartFacts.{started_rows, started_long, started_byt
 use Rattle.engine.proofs.Lent.{saved, forward_keeps}
 use Rattle.engine.proofs.TurnLaws.{turned_ok, turned_err}
 use Rattle.engine.proofs.alone.forward.Goals as goal
-use Rattle.network.specs.laws.Refusal.{refusal_not_0, unfit_ok, unfit_err}
+use Rattle.network.specs.laws.Numbers.{refusal_not_0}
+use Rattle.network.specs.laws.Refusal.{unfit_ok, unfit_err}
 
 pub returns-in_err-start : goal.returns-in_err-start
 returns-in_err-start c =

@@ -8,7 +8,7 @@ use Rattle.engine.specs.laws.DrainingLaws.{drain_refused, drain_done}
 use Rattle.engine.specs.laws.StartFacts.{started_rows, started_long, started_bytes}
 use Rattle.engine.proofs.Lent.{saved}
 use Rattle.engine.proofs.draining.drain.Goals as goal
-use Rattle.network.specs.laws.Refusal.{refusal_not_0}
+use Rattle.network.specs.laws.Numbers.{refusal_not_0}
 
 pub returns-in_err-start : goal.returns-in_err-start
 returns-in_err-start c =

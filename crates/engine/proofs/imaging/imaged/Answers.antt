@@ -4,7 +4,7 @@ use Rattle.std.proofs.lemmas.Result.{err_from_is_err_and}
 use Rattle.engine.proofs.ImagingLaws.{image_refused, image_short, image_done}
 use Rattle.engine.proofs.Lent.{opened_is}
 use Rattle.engine.proofs.imaging.imaged.Goals as goal
-use Rattle.network.specs.laws.Refusal.{refusal_not_0}
+use Rattle.network.specs.laws.Numbers.{refusal_not_0}
 
 pub returns-in_err-open : goal.returns-in_err-open
 returns-in_err-open c =

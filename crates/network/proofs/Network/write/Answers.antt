@@ -2,7 +2,7 @@
 use mathlib.Core.Path.{◌∙◌, refl}
 use Rattle.std.proofs.lemmas.Result.{err_from_is_err_and}
 use Rattle.network.specs.laws.Faults.{verdict_tab}
-use Rattle.network.specs.laws.Refusal.{refusal_not_0}
+use Rattle.network.specs.laws.Numbers.{refusal_not_0}
 use Rattle.network.specs.laws.Writing.{write_1, write_refused, write_0}
 use Rattle.network.proofs.Network.write.Goals as goal
 

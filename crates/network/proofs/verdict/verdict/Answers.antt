@@ -1,7 +1,7 @@
 -- `network::verdict::verdict` meets its contract. Assumes nothing.
 use borrow.Author.Rules.{rules}
 use Rattle.network.specs.laws.Faults.{verdict_one}
-use Rattle.network.specs.laws.Refusal.{refusal_not_0}
+use Rattle.network.specs.laws.Numbers.{refusal_not_0}
 use Rattle.network.proofs.verdict.verdict.Goals as goal
 
 pub returns-in-Err : goal.returns-in-Err

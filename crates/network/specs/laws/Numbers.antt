@@ -70,6 +70,6 @@ refusal_of_zero = refl
 pub number_of_injective : (a b : Refusal) → number_of a ≡ number_of b → a ≡ b
 number_of_injective a b h = same_Some a b (sym (refusal_of_number a) ∙ (ap refusal_of h ∙ refusal_of_number b))
 
--- No refusal has the number 0.
-pub number_of_not_zero : (r : Refusal) → number_of r ≡ 0 → ⊥
-number_of_not_zero r h = none-some r (sym refusal_of_zero ∙ (ap refusal_of (sym h) ∙ refusal_of_number r))
+-- "0 | done": no refusal has the number 0.
+pub refusal_not_0 : (r : Refusal) → number_of r ≡ 0 → ⊥
+refusal_not_0 r h = none-some r (sym refusal_of_zero ∙ (ap refusal_of (sym h) ∙ refusal_of_number r))

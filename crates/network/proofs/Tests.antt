@@ -90,15 +90,8 @@ module _ (n : Network) (p : Peer) where
   pub near_broken : (o : Option ℕ) → Found 32 o (near_absent (neighbours_of n p) n.present) → is_some o ≡ true → near_right n p ≡ false
   near_broken o f h = near_found_is o f ∙ ap not h
 
-  back_found_is : (o : Option ℕ) → Found 32 o (list_back n.neighbours (neighbours_of n p) p) → back_right n p ≡ not (is_some o)
-  unfolding back_right
-  back_found_is o f = rule_found (back_at n p) o (back_is n p) f
-
-  pub back_kept : (o : Option ℕ) → Found 32 o (list_back n.neighbours (neighbours_of n p) p) → is_some o ≡ false → back_right n p ≡ true
-  back_kept o f h = back_found_is o f ∙ ap not h
-
-  pub back_broken : (o : Option ℕ) → Found 32 o (list_back n.neighbours (neighbours_of n p) p) → is_some o ≡ true → back_right n p ≡ false
-  back_broken o f h = back_found_is o f ∙ ap not h
+  pub back_tested : {r b : Bool} → r ≡ back_right n p → r ≡ b → back_right n p ≡ b
+  back_tested e h = sym e ∙ h
 
   pub known_tested : {subscribers : List ℕ} {r b : Bool} → subscribers ≡ subscribers_of n.subs → r ≡ all 32 (same_at n.known subscribers (neighbours_of n p) p) → r ≡ b → known_right n p ≡ b
   known_tested s e h = sym (same_is n p s) ∙ sym e ∙ h

@@ -4,7 +4,7 @@ ghost use Rattle.std.specs.Prelude.{◌≡◌, ℕ, ◌%◌, ◌<◌, eqb, get_o
 ghost use Rattle.sets.specs.Set.{set_of};
 ghost use Rattle.sets.specs.Any.{all};
 ghost use Rattle.network.specs.Refusal.{number};
-ghost use Rattle.network.specs.Rules.{empty_right, absent_fault, present_fault, fault_of};
+ghost use Rattle.network.specs.Rules.{empty_right, back_right, absent_fault, present_fault, fault_of};
 ghost use Rattle.network.specs.Tests.{Found, subscribers_of, joined_to, row_empty, near_absent, list_back, same_at, row_known};
 
 use crate::{Network, Peer, Refusal, Topic, spot};
@@ -69,8 +69,8 @@ pub(crate) fn near_absent(listed: u32, present: u32) -> Option<u32>
     listed.minus(present).members().next()
 }
 
-// The lowest of the peers listed that doesn't list p. (Those left stand in a word of 64 bits: some machines take the least from it in a
-// step less, docs/BENCH.md.)
+// The lowest of the peers listed that doesn't list p: for the detail alone. (Those left stand in a word of 64 bits: some machines take the least
+// from it in a step less, docs/BENCH.md.)
 #[tactic(auto, using(sets::proofs::laws::Lowest::taken_below))]
 pub(crate) fn list_back(neighbours: &[u32; 32], listed: u32, p: Peer) -> Option<u32>
     requires { p.0 < 32 }
@@ -82,6 +82,20 @@ pub(crate) fn list_back(neighbours: &[u32; 32], listed: u32, p: Peer) -> Option<
         }
     }
     None
+}
+
+// Each neighbour of p lists p: p is in what all their words have in common. It is list_back's question, asked of all at once, without a branch for each.
+#[tactic(auto, using(sets::proofs::laws::Lowest::taken_below))]
+fn listed_back(n: &Network, p: Peer) -> bool
+    requires { p.0 < 32 }
+    ensures { result ≡ back_right n.now p }
+{
+    let listed = n.neighbours[p.0 as usize];
+    let mut common = u32::MAX;
+    for q in (listed as u64).members() {
+        common = common.meet(n.neighbours[q as usize]);
+    }
+    common.has(p.0 as u32)
 }
 
 // The row of p has, for each topic, the subscribers among the peers listed. Every topic is asked, so that the compiler can ask many at once.
@@ -164,7 +178,7 @@ fn present_fault(n: &Network, p: Peer, subscribers: &[u32; 32]) -> Result<(), Re
     if near_absent(listed, n.present).is_some() {
         return Err(Refusal::NeighbourAbsent);
     }
-    if list_back(&n.neighbours, listed, p).is_some() {
+    if !listed_back(n, p) {
         return Err(Refusal::NotListedBack);
     }
     if !row_same(&n.known, subscribers, listed, p) {

@@ -13,7 +13,7 @@ use Rattle.sets.proofs.laws.Members.{has_first, has_rest, has_meet, has_xor, ext
 use Rattle.sets.proofs.laws.Bounds.{meet_lt, minus_lt}
 
 -- A word of k bits that are all set has every number below k.
-has_all : (k i : ℕ) → i < k → has (2 ^ k - 1) i ≡ true
+pub has_all : (k i : ℕ) → i < k → has (2 ^ k - 1) i ≡ true
 has_all zero i h = absurd (not-suc-le-zero h)
 has_all (suc k) zero h = has_first (2 ^ suc k - 1) ∙ ap (λ (x : ℕ). eqb x 1) (odd_all k)
   where

@@ -81,7 +81,7 @@ pub fn drain_all(n: &mut Network, table: &Table, budget: u32) -> Drains
         let k = sorted.drain_round(n, budget - made);
         made += k;
         if k == due {
-            rounds += 1;
+            rounds += 1; // a count of what is finished, no index
         }
         due = waiting(&n.pending);
     }

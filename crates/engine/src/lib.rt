@@ -33,7 +33,7 @@ pub struct Tally {
 }
 
 // The answer of a run: "a number, a place and the count of accepted events". In this and the following answers the detail, document 02's E1,
-// lies where C has padding: the lowest peer or topic at fault where the number is 23 to 25, else 0.
+// lies where C has padding: the lowest peer or topic at fault where the number is 23 to 25, else 0; and the number is one because C reads it.
 #[repr(C)]
 #[derive(Clone, Copy, Debug, PartialEq, Eq)]
 pub struct Answer {

@@ -17,7 +17,8 @@ ghost use Rattle.console.specs.Console.{flood_of};
 use std::io;
 use std::io::{Read, Write};
 
-// Reads the input to its end, but at most as much as the buffer holds.
+// Reads the input to its end, but at most as much as the buffer holds. (A read gives as many bytes as it likes, and the library's loops that read on
+// ask for a Vec or for an exact number.)
 fn read<R: Read>(input: &mut R, buf: &mut [u8]) -> io::Result<usize>
     ensures bound { ReadsAtMost result buf.new }
     ensures bytes { IfOk result (λ n. IfSome (R.remaining input.old) (λ bytes. take n buf.new ≡ take (length buf.old) bytes)) }

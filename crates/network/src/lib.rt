@@ -24,7 +24,8 @@ ghost use Rattle.network.specs.Rows.{blank_table, listed_as, list_of};
 use endian::Little;
 pub use refusal::Refusal;
 
-// "A peer number, a topic number and a message number are separate sorts": none stands where another is meant.
+// "A peer number, a topic number and a message number are separate sorts": none stands where another is meant. Each holds any byte, since
+// `events::record` and `write_at` promise the bytes of every event, whatever its numbers; so a range is a clause of what needs it.
 #[derive(Clone, Copy, Debug, PartialEq, Eq)]
 pub struct Peer(pub u8);
 
@@ -63,7 +64,8 @@ impl TryFrom<u8> for Message {
     }
 }
 
-// The working state: for each peer its sets as words; `known` has the word of topic t of peer p at p * 32 + t.
+// The working state: for each peer its sets as words; `known` has the word of topic t of peer p at p * 32 + t. Columns and no records: the
+// definitions speak of them (specs/Network.antt), and a row of known subscribers is compared whole, by vectors.
 #[derive(Clone, Copy)]
 pub struct Network {
     pub present: u32,
@@ -75,7 +77,8 @@ pub struct Network {
     pub known: [u32; 1024],
 }
 
-// The message table, read once: topic and origin of each message.
+// The message table, read once: topic and origin of each message. It holds any columns, as `topic_of` answers for any; that its rows were accepted
+// is a clause (`Rows`) of what needs it.
 #[derive(Clone, Copy)]
 pub struct Table {
     pub topics: [u8; 64],
@@ -105,7 +108,7 @@ impl From<Refusal> for Refused {
 }
 
 // What an entry point answers that only reads or writes: zeros, or the number of a refusal, its detail (the lowest peer or topic at fault where
-// the number is 23 to 25, else 0) and its place, here the record at fault. The detail lies where C has padding.
+// the number is 23 to 25, else 0) and its place, here the record at fault. The detail lies where C has padding, and the number is one because C reads it.
 #[repr(C)]
 #[derive(Clone, Copy)]
 pub struct Checked {
@@ -181,7 +184,7 @@ impl Network {
         opened
     }
 
-    // Writes the network's bytes.
+    // Writes the network's bytes. The buffer is a slice: its length is tested by those who lend it, in its place among the refusals.
     #[tactic(auto, using(crate::proofs::Steps::filling, crate::specs::laws::Storing::filled_record), unfolding(crate::specs::State::bytes_of))]
     pub fn save(&self, state: &mut [u8])
         requires { length state.old ≡ 5120 }

@@ -20,7 +20,8 @@ pub(crate) fn words(state: &[u8; 5120], j: usize) -> [u32; 32]
     r
 }
 
-// The 8-byte number at words j and j + 1 of each record.
+// The 8-byte number at words j and j + 1 of each record. (Beside `words`: an item of a generic array is no number in a clause, and one function for
+// both would say of each item which it is, which is longer than the two.)
 #[tactic(auto, using(crate::proofs::Steps::filling), unfolding(crate::specs::State::long))]
 pub(crate) fn longs(state: &[u8; 5120], j: usize) -> [u64; 32]
     requires { j < 39 }

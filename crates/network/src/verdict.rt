@@ -7,8 +7,8 @@ ghost use Rattle.network.specs.Tests.{subscribers_of};
 
 use crate::{Network, Peer, Refusal, Refused, rules};
 
-// The detail that goes with p's fault: the lowest peer or topic at fault for 23 to 25, 0 for the others. It is asked only once a record is
-// known to be at fault, so that there is one.
+// The detail that goes with p's fault: the lowest peer or topic at fault for 23 to 25, 0 for the others, as document 02 and C's answers have it. It
+// is asked only once a record is known to be at fault, so that there is one.
 fn detail(n: &Network, refusal: Refusal, p: Peer, subscribers: &[u32; 32]) -> u8
     requires within { (p.0 < 32) × (subscribers.now ≡ subscribers_of n.now.subs) }
     requires there { detail_of (number_of refusal) n.now p < 32 }

@@ -1,4 +1,5 @@
-// Words of 32 and of 64 bits, as sets of the numbers below 32 and 64.
+// Words of 32 and of 64 bits, as sets of the numbers below 32 and 64. Each says what its own operations compute: in generic code a word is any number,
+// so that one impl over all integers (`PrimInt`) would have to ask of every call that its words are in range.
 ghost use Rattle.std.specs.Prelude.{ℕ};
 
 use crate::Word;

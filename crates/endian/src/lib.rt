@@ -52,9 +52,16 @@ impl Little for u64 {
     ghost number = { λ x. x };
 
     fn read(b: &[u8], at: usize) -> u64 {
-        let low = u32::read(b, at);
-        let high = u32::read(b, at + 4);
-        u64::from(low) + 4294967296 * u64::from(high)
+        u64::from_le_bytes([
+            b[at],
+            b[at + 1],
+            b[at + 2],
+            b[at + 3],
+            b[at + 4],
+            b[at + 5],
+            b[at + 6],
+            b[at + 7],
+        ])
     }
 
     fn put(self, b: &mut [u8], at: usize) {

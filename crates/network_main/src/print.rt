@@ -1,15 +1,6 @@
-// One line of the output, and the comparison that its last word rests on.
-ghost use Rattle.std.specs.Prelude.{◌≡◌, ◌↔◌, IsTrue};
-
+// One line of the output.
 use network::{Checked, Refused};
 use std::io;
-
-// The two slices have the same bytes.
-pub(crate) fn same(a: &[u8], b: &[u8]) -> bool
-    ensures { IsTrue result ↔ (a.now ≡ b.now) }
-{
-    a == b
-}
 
 // A word and a number after it.
 pub(crate) fn word(rt: &impl Print, text: &str, n: u64) -> io::Result<()> {

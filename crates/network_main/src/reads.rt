@@ -6,7 +6,7 @@ use std::io;
 
 // The network is the blank one: its bytes are 5,120 zeros.
 fn is_blank(n: &Network) -> bool {
-    print::same(&states::bytes(n), &[0u8; 5120])
+    states::bytes(n) == [0u8; 5120]
 }
 
 // The state with byte `at` of record p set to x is read; the line says `rule`, the record at fault and the byte set last.
@@ -43,7 +43,7 @@ fn round(rt: &impl Print, state: [u8; 5120]) -> io::Result<()> {
     let mut n = states::before();
     let read = n.read(&state);
     print!(rt; "read and write, sound")?;
-    print::detailed(rt, read, "same", print::same(&states::bytes(&n), &state))
+    print::detailed(rt, read, "same", states::bytes(&n) == state)
 }
 
 pub(crate) fn accepted(rt: &impl Print) -> io::Result<()> {

@@ -32,7 +32,7 @@ fn before() -> Table {
 
 // The table of zeros.
 fn is_zero(t: &Table) -> bool {
-    print::same(&t.topics, &[0u8; 64]) && print::same(&t.origins, &[0u8; 64])
+    t.topics == [0u8; 64] && t.origins == [0u8; 64]
 }
 
 pub(crate) fn accepted(rt: &impl Print) -> io::Result<()> {

@@ -44,6 +44,8 @@ pub fn forward(n: &mut Network, table: &Table, p: Peer, m: Message) -> Turned
     }
 }
 
+// (Subscribe and unsubscribe, here and in links.rt, are two rows of document 01's table: one function for both would take the event, the change and what it does
+// to a word, and its promise would hold of any three that fit.)
 pub(crate) fn subscribe(n: &mut Network, p: Peer, topics: u32) -> Result<u32, Refusal>
     requires { p.0 < 32 }
     ensures { (b : Table) → Stepped n.old n.new b (Event.Subscribe p topics) (answer_to (Event.Subscribe p topics) result) }

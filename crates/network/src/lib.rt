@@ -35,7 +35,7 @@ pub struct Topic(pub u8);
 #[derive(Clone, Copy, Debug, PartialEq, Eq)]
 pub struct Message(pub u8);
 
-// "Peers 0 to 31 [..] messages 0 to 63": a byte that is none of them is refused by 7.
+// "Peers 0 to 31 [..] messages 0 to 63": a byte that is none of them is refused by 7. (One conversion for both would take the sorts as instances of a third.)
 impl TryFrom<u8> for Peer {
     type Error = Refusal;
 

@@ -1,11 +1,12 @@
 -- 01's number and values fix the case: a promise through `reading_of` says which case was answered, and every reading of bytes is
 -- a case's. Assumes nothing.
-use Rattle.std.specs.Prelude.{ℕ, ◌*◌, ◌/◌, ◌<◌, ◌≡◌, refl, Bool, true, false, cond, List, ltb, eqb, length, Option, None, Some, Result, Ok, Err}
-use Rattle.std.proofs.Common.{sym, ap, ◌∙◌, lt-ltb, ltb-true}
+use Rattle.std.specs.Prelude.{ℕ, ◌*◌, ◌/◌, ◌<◌, ◌≡◌, refl, ◌⊎◌, Bool, true, false, cond, List, ltb, eqb, length, Option, None, Some, Result, Ok, Err}
+use Rattle.std.proofs.Common.{sym, ap, ◌∙◌, inl, inr, lt-ltb, ltb-true}
 use Rattle.sets.proofs.laws.Bools.{clash}
 use Rattle.events.specs.declared.Fields.{Fields}
 use Rattle.events.specs.declared.Event.{Event}
 use Rattle.network.specs.declared.refusal.Refusal.{Refusal}
+use Rattle.network.specs.declared.refusal.Refusal.TheVariants.{UnknownCode, Unfit}
 use Rattle.network.specs.laws.Numbers.{refusal_of, refusal_of_number}
 use Rattle.events.specs.Event.{Read, Reading, taken, refused, ended, reading_of, read_of, or_seven, decode_of, fields_at, reading_at, read_at}
 
@@ -26,6 +27,20 @@ case_of_lem None = refl
 -- Two answers with the same number and values are the same case, since two refusals have two numbers.
 pub reading_fixes : (a b : Read) → reading_of a ≡ reading_of b → a ≡ b
 reading_fixes a b h = sym (case_of_lem a) ∙ (ap case_of h ∙ case_of_lem b)
+
+-- a case that bytes give: of the refusals 6 and 7 alone
+unfoldable Given : Read → Type 0
+Given (Some (Ok e)) = Unit {0}
+Given (Some (Err refusal)) = (refusal ≡ UnknownCode) ⊎ (refusal ≡ Unfit)
+Given None = Unit {0}
+
+-- Such a case is found again from its reading by `read_of`, too.
+read_of_lem : (r : Read) → Given r → read_of (reading_of r) ≡ r
+unfolding read_of reading_of Given
+read_of_lem (Some (Ok e)) g = refl
+read_of_lem (Some (Err refusal)) (inl h) = rw h
+read_of_lem (Some (Err refusal)) (inr h) = rw h
+read_of_lem None g = refl
 
 -- a reading that some case has
 unfoldable OfCase : Reading → Type 0

@@ -1,10 +1,6 @@
 -- 004's Figure 1 on the engine's own events, from the blank network on: why a partial broadcast may ask nothing of the message's origin, nor that
 -- anybody subscribes. Worked out by the definitions themselves. Assumes nothing.
-use mathlib.Core.Path.{◌≡◌, refl}
-use mathlib.Core.Bool.{false}
-use mathlib.Core.List.{List, [], ◌∷◌}
-use Prim.Native.Nat.{ℕ, ◌+◌}
-use lib.ListN.{replicate, set}
+use Rattle.std.specs.Prelude.{◌≡◌, refl, false, List, [], ◌∷◌, ℕ, ◌+◌, replicate, set}
 use Rattle.sets.specs.Set.{has, union, meet, minus, only, when, puts, strikes, empties, set_of, sift}
 use Rattle.lists.specs.Edit.{edit}
 use Rattle.network.specs.declared.Network.{Network}

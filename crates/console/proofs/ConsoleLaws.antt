@@ -1,14 +1,7 @@
 -- Laws of what is printed: each way that it comes to be, the parts of an input, and the tie to the entry point. Assumes nothing.
-use mathlib.Core.Path.{◌≡◌, refl, sym, ap, subst, ◌∙◌}
-use mathlib.Core.Bool.{Bool, true, false, cond}
-use mathlib.Core.List.{List, [], ◌++◌, append-nil}
-use Prim.Native.Nat.{ℕ, ◌-◌, ◌≤◌, ◌<◌, min}
-use native.Mathlib.Omega.{arith}
+use Rattle.std.specs.Prelude.{◌≡◌, refl, Bool, true, false, cond, List, [], ◌++◌, ℕ, ◌-◌, ◌≤◌, ◌<◌, min, eqb, length, take, drop}
+use Rattle.std.proofs.Common.{sym, ap, subst, ◌∙◌, append-nil, arith, length-take, length-drop, drop_of_length-le, take_all, lt-ltb, le-ltb}
 use native.Mathlib.Decide.{dec_lt}
-use lib.Dec.{eqb}
-use lib.ListN.{length, take, drop, length-take, length-drop, drop_of_length-le}
-use lib.Seq.{take_all}
-use borrow.Author.Tests.{lt-ltb, le-ltb}
 use Rattle.sets.proofs.laws.Bools.{ne_eqb}
 use Rattle.network.specs.declared.Network.{Network}
 use Rattle.network.specs.State.{blank_net}

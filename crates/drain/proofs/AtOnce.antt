@@ -1,12 +1,8 @@
 -- Laws of specs/AtOnce.antt. Assumes nothing.
-use mathlib.Core.Path.{◌≡◌, refl, sym, ap, ap₂, ◌∙◌}
-use mathlib.Core.Bool.{Bool, true, false, not, ◌&&◌, ◌||◌, and-true, and-false, or-false}
-use mathlib.Core.List.{List}
-use Prim.Native.Nat.{ℕ, ◌+◌, ◌*◌, ◌^◌, ◌<◌}
+use Rattle.std.specs.Prelude.{◌≡◌, refl, Bool, true, false, not, ◌&&◌, ◌||◌, List, ℕ, ◌+◌, ◌*◌, ◌^◌, ◌<◌, eqb, get_or, set}
+use Rattle.std.proofs.Common.{sym, ap, ap₂, ◌∙◌, eq-eqb, eqb-true}
+use mathlib.Core.Bool.{and-true, and-false, or-false}
 use native.Mathlib.Decide.{ℕ_discrete}
-use lib.Dec.{eqb}
-use lib.ListN.{get_or, set}
-use borrow.Author.Tests.{eq-eqb, eqb-true}
 use Rattle.sets.specs.Set.{has, union, meet, minus, only, sift, lowest}
 use Rattle.sets.proofs.laws.Bools.{clash, bool_ext, and_no, eqb_same, ne_eqb}
 use Rattle.sets.proofs.laws.Members.{membership, has_meet, has_minus, has_none, has_without, has_without_other, ext}

@@ -1,16 +1,10 @@
 -- A peer's messages forwarded at once (specs/AtOnce.antt) are its forwards one by one, since different messages touch different bits; and as
 -- many. Assumes nothing.
-use mathlib.Core.Path.{◌≡◌, refl, sym, ap, ap₂, ◌∙◌}
-use mathlib.Core.Bool.{Bool, true, false, not, cond, ◌&&◌, ◌||◌, and-true, and-false, or-false}
-use mathlib.Core.List.{List, [], ◌∷◌, ◌++◌, append-nil}
-use Prim.Native.Nat.{ℕ, zero, suc, ◌+◌, ◌*◌, ◌^◌, ◌≤◌, ◌<◌}
-use native.Mathlib.Nat.{lt_of_lt_of_le}
-use native.Mathlib.Omega.{arith}
+use Rattle.std.specs.Prelude.{◌≡◌, refl, Bool, true, false, not, cond, ◌&&◌, ◌||◌, List, [], ◌∷◌, ◌++◌, ℕ, zero, suc, ◌+◌, ◌*◌, ◌^◌, ◌≤◌, ◌<◌, eqb, length, get_or, set}
+use Rattle.std.proofs.Common.{sym, ap, ap₂, ◌∙◌, append-nil, lt_of_lt_of_le, arith, pow_mono, length-set, get_or-set_same, get_or-set_other, set-set, ext_get_or}
+use mathlib.Core.Bool.{and-true, and-false, or-false}
 use native.Mathlib.Decide.{dec_lt, ℕ_discrete}
-use lib.Dec.{eqb}
-use lib.Pow.{pow_mono}
-use lib.ListN.{length, get_or, set, length-set}
-use lib.Seq.{get_or-set_same, get_or-set_other, set_out, set-set, set-get_or, ext_get_or}
+use lib.Seq.{set_out, set-get_or}
 use Rattle.sets.specs.Set.{has, union, minus, only, with_if, set_of, when, puts}
 use Rattle.sets.specs.Rising.{rising}
 use Rattle.sets.proofs.laws.Bools.{bool2, eqb_same, ne_eqb}

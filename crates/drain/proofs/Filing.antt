@@ -1,17 +1,9 @@
 -- What a drain has to look at (specs/AtOnce.antt): the messages that are pending somewhere, their topics, and those of each topic in a word. What
 -- the loops keep that find them; and that then every pending message is filed. Assumes nothing.
-use mathlib.Core.Path.{◌≡◌, refl, sym, ap, ◌∙◌}
-use mathlib.Core.Logic.{◌⊎◌, inl, inr}
-use mathlib.Core.Bool.{Bool, true, ◌&&◌, ◌||◌}
-use mathlib.Core.List.{List}
-use Prim.Native.Nat.{ℕ, zero, suc, ◌+◌, ◌^◌, ◌<◌}
-use native.Mathlib.Numerals.{add-one}
-use native.Mathlib.Omega.{arith}
+use Rattle.std.specs.Prelude.{◌≡◌, refl, ◌⊎◌, Bool, true, ◌&&◌, ◌||◌, List, ℕ, zero, suc, ◌+◌, ◌^◌, ◌<◌, eqb, length, get_or, set, replicate}
+use Rattle.std.proofs.Common.{sym, ap, ◌∙◌, inl, inr, add-one, arith, length-set, get_or-set_same, get_or-set_other, eq-eqb, eqb-true}
 use native.Mathlib.Decide.{ℕ_discrete}
-use lib.Dec.{eqb}
-use lib.ListN.{length, get_or, set, replicate, length-set, length-replicate, get_or-replicate}
-use lib.Seq.{get_or-set_same, get_or-set_other}
-use borrow.Author.Tests.{eq-eqb, eqb-true}
+use lib.ListN.{length-replicate, get_or-replicate}
 use Rattle.sets.specs.Any.{any}
 use Rattle.sets.specs.Set.{has, union, minus, only, set_of, Subset, lowest}
 use Rattle.sets.proofs.laws.Any.{any_yes, any_why, any_none}

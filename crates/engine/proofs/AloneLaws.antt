@@ -1,8 +1,6 @@
 -- Laws of reading and writing as entry points: each way that they end. Assumes nothing.
-use mathlib.Core.Path.{◌≡◌, ap}
-use mathlib.Core.List.{List}
-use Prim.Native.Nat.{ℕ}
-use lib.ListN.{length}
+use Rattle.std.specs.Prelude.{◌≡◌, List, ℕ, length}
+use Rattle.std.proofs.Common.{ap}
 use Rattle.sets.proofs.laws.Bools.{ne_eqb}
 use Rattle.network.specs.State.{Opened}
 use Rattle.network.specs.Rules.{checked}

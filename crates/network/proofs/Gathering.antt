@@ -1,9 +1,7 @@
 -- The loop over all peers that comes to the peers subscribed to each topic. Assumes nothing.
-use mathlib.Core.Path.{◌≡◌, sym, ap, ◌∙◌}
-use mathlib.Core.List.{List}
-use Prim.Native.Nat.{ℕ, ◌+◌}
-use native.Mathlib.Omega.{arith}
-use lib.ListN.{get_or, replicate, length-replicate, get_or-replicate}
+use Rattle.std.specs.Prelude.{◌≡◌, List, ℕ, ◌+◌, get_or, replicate}
+use Rattle.std.proofs.Common.{sym, ap, ◌∙◌, arith}
+use lib.ListN.{length-replicate, get_or-replicate}
 use Rattle.sets.specs.Set.{has, with_if, set_of}
 use Rattle.sets.proofs.laws.Build.{fill_none, fill_more}
 use Rattle.lists.specs.Tab.{tab}

@@ -1,12 +1,6 @@
 -- Laws of specs/RowWords.antt. Assumes nothing.
-use mathlib.Core.Path.{◌≡◌, sym, ap, ◌∙◌}
-use mathlib.Core.Bool.{not}
-use mathlib.Core.List.{List}
-use Prim.Native.Nat.{ℕ, ◌+◌, ◌*◌, ◌/◌, ◌%◌, ◌<◌}
-use native.Mathlib.Omega.{arith}
-use lib.Dec.{ltb}
-use lib.ListN.{get_or}
-use borrow.Author.Tests.{lt-ltb, ltb-true}
+use Rattle.std.specs.Prelude.{◌≡◌, not, List, ℕ, ◌+◌, ◌*◌, ◌/◌, ◌%◌, ◌<◌, ltb, get_or}
+use Rattle.std.proofs.Common.{sym, ap, ◌∙◌, arith, lt-ltb, ltb-true}
 use Rattle.sets.proofs.laws.Bools.{bool_ext, and_yes, and_both}
 use Rattle.sets.proofs.laws.Least.{lowest_of_same}
 use Rattle.lists.specs.Tab.{tab}

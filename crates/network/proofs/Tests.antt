@@ -1,13 +1,7 @@
 -- Laws of specs/Tests.antt. Assumes nothing.
-use mathlib.Core.Path.{◌≡◌, sym, ap, ◌∙◌}
-use mathlib.Core.Bool.{Bool, true, false, not, ◌&&◌, and_comm}
-use mathlib.Core.List.{List}
-use Rattle.std.specs.Prelude.{Option, None, Some, is_some, unwrap_or}
-use Prim.Native.Nat.{ℕ, ◌^◌, ◌<◌}
-use native.Mathlib.Omega.{arith}
-use lib.Dec.{eqb}
-use lib.ListN.{get_or}
-use borrow.Author.Tests.{eq-eqb}
+use Rattle.std.specs.Prelude.{◌≡◌, Bool, true, false, not, ◌&&◌, List, Option, None, Some, is_some, unwrap_or, ℕ, ◌^◌, ◌<◌, eqb, get_or}
+use Rattle.std.proofs.Common.{sym, ap, ◌∙◌, arith, eq-eqb}
+use mathlib.Core.Bool.{and_comm}
 use Rattle.sets.proofs.laws.Members.{has_meet, has_minus}
 use Rattle.sets.proofs.laws.Bounds.{meet_lt, minus_lt}
 use Rattle.sets.proofs.laws.Build.{set_of_lt, has_set_of, is_set_of}

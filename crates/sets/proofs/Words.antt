@@ -1,12 +1,8 @@
 -- What the code computes, `a & !b`, `w | (1 << i)` and the others, is what the definitions say. Stated once, over the width k. Assumes nothing.
-use mathlib.Core.Path.{◌≡◌, sym, ap, ◌∙◌}
-use mathlib.Core.Bool.{Bool, true, false, not, ◌&&◌}
-use Prim.Native.Nat.{ℕ, zero, suc, ◌-◌, ◌*◌, ◌/◌, ◌%◌, ◌^◌, ◌<◌}
-use native.Mathlib.Nat.{not-suc-le-zero, le_of_suc-le-suc, mod-eq_of_lt, one-mul}
-use native.Mathlib.Omega.{arith}
-use lib.Dec.{eqb}
-use lib.Pow.{pow_pos, pow-lt}
-use lib.Bits.{bit_and, bit_or, bit_xor, or_zero_r, xor_add_and, and_mask}
+use Rattle.std.specs.Prelude.{◌≡◌, Bool, true, false, not, ◌&&◌, ℕ, zero, suc, ◌-◌, ◌*◌, ◌/◌, ◌%◌, ◌^◌, ◌<◌, eqb, bit_and, bit_or, bit_xor}
+use Rattle.std.proofs.Common.{sym, ap, ◌∙◌, not-suc-le-zero, le_of_suc-le-suc, mod-eq_of_lt, one-mul, arith, pow_pos}
+use lib.Pow.{pow-lt}
+use lib.Bits.{or_zero_r, xor_add_and, and_mask}
 use Rattle.sets.proofs.laws.Bools.{apart, apart_true}
 use Rattle.sets.specs.Set.{has, union, meet, minus, only, when, puts, with_if, digit}
 use Rattle.sets.proofs.laws.Members.{has_first, has_rest, has_meet, has_xor, ext_below, has_minus}

@@ -1,8 +1,7 @@
 -- The rows of subscribe, unsubscribe, leave and join in 01's table of images. Assumes nothing.
-use Rattle.std.specs.Prelude.{◌≡◌, refl, true, false, ℕ, zero, suc, ◌<◌, length, get_or, set}
+use Rattle.std.specs.Prelude.{◌≡◌, refl, true, false, ℕ, zero, suc, ◌<◌, length, get_or, set, List, [], ◌∷◌}
 use Rattle.std.proofs.Common.{sym, ◌∙◌, arith, get_or-set_same}
 use Rattle.std.proofs.Math.Path.{ap}
-use mathlib.Core.List.{List, [], ◌∷◌}
 use Rattle.std.proofs.lemmas.List.{set-get_or}
 use Rattle.sets.specs.Set.{union, minus, only}
 use Rattle.sets.proofs.laws.Bounds.{minus_lt}

@@ -1,6 +1,5 @@
 -- The invariants of `broadcastnet::settled`: the first q sets are those of `without`. Assumes nothing.
-use Prim.Native.Nat.{ℕ}
-use lib.ListN.{get_or}
+use Rattle.std.specs.Prelude.{ℕ, get_or}
 use Rattle.sets.specs.Set.{minus}
 use Rattle.lists.specs.Tab.{Filled}
 use Rattle.broadcastnet.proofs.settled.Given as goal

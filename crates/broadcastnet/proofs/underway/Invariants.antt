@@ -1,5 +1,5 @@
 -- The invariants of `broadcastnet::underway`. Assumes nothing.
-use mathlib.Core.Path.{◌≡◌}
+use Rattle.std.specs.Prelude.{◌≡◌}
 use Rattle.broadcastnet.specs.Commit.{together}
 use Rattle.broadcastnet.proofs.underway.Given as goal
 

@@ -1,6 +1,6 @@
 -- `console::refused` meets its contract. Assumes nothing.
-use mathlib.Core.Path.{ap, ◌∙◌}
-use Prim.Native.Nat.{ℕ}
+use Rattle.std.specs.Prelude.{ℕ}
+use Rattle.std.proofs.Common.{ap, ◌∙◌}
 use Rattle.console.specs.Console.{refused_text}
 use Rattle.console.proofs.ConsoleLaws.{printed_report, refused_text_lem}
 use Rattle.console.proofs.refused.Goals as goal

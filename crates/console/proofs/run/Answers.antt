@@ -1,5 +1,5 @@
 -- `console::run` meets its contract. Assumes nothing.
-use mathlib.Core.Path.{refl}
+use Rattle.std.specs.Prelude.{refl}
 use Rattle.engine.specs.laws.StartFacts.{started_rows}
 use Rattle.network.specs.laws.Numbers.{refusal_not_0}
 use Rattle.console.proofs.ConsoleLaws.{printed_as, printed_report, text_refused, text_run}

@@ -1,5 +1,5 @@
 -- The invariants of `drain::anywhere`. Assumes nothing.
-use mathlib.Core.Path.{◌≡◌}
+use Rattle.std.specs.Prelude.{◌≡◌}
 use Rattle.drain.specs.AtOnce.{anywhere_of}
 use Rattle.drain.proofs.anywhere.Given as goal
 

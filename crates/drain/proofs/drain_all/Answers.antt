@@ -1,8 +1,6 @@
 -- `drain::drain_all` meets its contract. The loop keeps that what is left of the drain is the drain of what is left, and that
 -- every pending message is filed. Assumes nothing.
-use mathlib.Core.Logic.{inl, inr}
-use native.Mathlib.Omega.{arith}
-use borrow.Author.Rules.{rules}
+use Rattle.std.proofs.Common.{inl, inr, arith, rules}
 use Rattle.drain.specs.laws.LentLaws.{rounds_none, round_leads, round_some, round_full, round_part, lent_done}
 use Rattle.drain.specs.AtOnce.{Filed}
 use Rattle.drain.proofs.Filing.{each_filed}

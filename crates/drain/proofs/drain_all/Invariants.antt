@@ -1,7 +1,5 @@
 -- The invariants of `drain::drain_all`. Assumes nothing.
-use mathlib.Core.Path.{◌≡◌}
-use Prim.Native.Nat.{◌-◌}
-use lib.Dec.{eqb}
+use Rattle.std.specs.Prelude.{◌≡◌, ◌-◌, eqb}
 use Rattle.drain.specs.Pairs.{waiting_of, empty_words}
 use Rattle.drain.specs.laws.LentLaws.{Rounds}
 use Rattle.drain.specs.AtOnce.{EachFiled}

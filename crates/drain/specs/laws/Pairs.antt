@@ -1,11 +1,8 @@
 -- Laws of specs/Pairs.antt. Assumes nothing.
-use Rattle.std.specs.Prelude.{◌≡◌, refl, ◌⊎◌, Bool, true, cond, ◌&&◌, eqb, get_or}
+use Rattle.std.specs.Prelude.{◌≡◌, refl, ◌⊎◌, Bool, true, cond, ◌&&◌, eqb, get_or, List, [], ◌∷◌, ◌++◌, ℕ, zero, suc, ◌+◌, ◌-◌, ◌^◌, ◌≤◌, ◌<◌}
+use Rattle.std.proofs.Common.{◌∙◌, ap₂, inl, inr, ⊎_elim, eqb-true, eq-eqb, arith}
 use Rattle.std.proofs.Math.Path.{sym, ap}
-use Rattle.std.proofs.Common.{◌∙◌, ap₂, inl, inr, ⊎_elim, eqb-true, eq-eqb}
-use mathlib.Core.List.{List, [], ◌∷◌, ◌++◌}
-use Prim.Native.Nat.{ℕ, zero, suc, ◌+◌, ◌-◌, ◌^◌, ◌≤◌, ◌<◌}
 use Rattle.std.proofs.Math.Nat.{sub-zero, eq-zero-or-pos}
-use native.Mathlib.Omega.{arith}
 use Rattle.std.proofs.Math.ListN.{length, take, length-take}
 use Rattle.std.proofs.Math.Seq.{take-nil}
 use Rattle.sets.specs.Set.{has, minus, only, lowest, count, digit}

@@ -1,5 +1,5 @@
 -- `engine::relay_run` meets its contract. Assumes nothing.
-use mathlib.Core.Path.{refl}
+use Rattle.std.specs.Prelude.{refl}
 use Rattle.engine.proofs.RunEnds.{ends_refused, ends_written, ends_run}
 use Rattle.engine.specs.laws.StartFacts.{started_rows, started_long}
 use Rattle.engine.proofs.relay_run.Goals as goal

@@ -1,7 +1,6 @@
 -- Laws of specs/RunCounts.antt. Assumes nothing.
 use Rattle.std.specs.Prelude.{◌≡◌, refl, ◌⊎◌, Some, None, Ok, Err, List, ℕ, suc, ◌+◌, ◌-◌, ◌≤◌}
-use Rattle.std.proofs.Common.{ap, ◌∙◌, inl, inr}
-use native.Mathlib.Omega.{arith}
+use Rattle.std.proofs.Common.{ap, ◌∙◌, inl, inr, arith}
 use Rattle.sets.specs.Set.{digit, size, count}
 use Rattle.sets.specs.Sums.{sum}
 use Rattle.sets.proofs.laws.Counts.{count_ext, count_first}

@@ -1,10 +1,9 @@
 -- Laws of specs/RunLaws.antt. Assumes nothing.
-use Rattle.std.specs.Prelude.{◌≡◌, Bool, cond, List}
+use Rattle.std.specs.Prelude.{◌≡◌, Bool, cond, List, ℕ, zero, suc, ◌+◌}
+use Rattle.std.proofs.Common.{eq-eqb, eqb-true}
 use Rattle.std.proofs.Math.Path.{refl}
 use Rattle.std.proofs.Math.Bool.{true, false}
-use Prim.Native.Nat.{ℕ, zero, suc, ◌+◌}
 use Rattle.std.proofs.Math.Dec.{eqb}
-use Rattle.std.proofs.Common.{eq-eqb, eqb-true}
 use Rattle.sets.proofs.laws.Bools.{clash, ne_eqb}
 use Rattle.network.specs.declared.Network.{Network}
 use Rattle.network.specs.declared.Table.{Table}

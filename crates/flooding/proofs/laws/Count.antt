@@ -1,9 +1,7 @@
 -- What is left to do: each forward lowers the count of unseen pairs by one, so there are at most N * M; N rounds end it. Assumes nothing.
-use Rattle.std.specs.Prelude.{◌≡◌, Bool, false, ◌&&◌, ◌||◌, eqb, length}
+use Rattle.std.specs.Prelude.{◌≡◌, Bool, false, ◌&&◌, ◌||◌, eqb, length, List, [], ◌∷◌, ℕ, zero, suc, ◌+◌, ◌*◌, ◌≤◌, ◌<◌}
+use Rattle.std.proofs.Common.{arith}
 use Rattle.std.proofs.Math.Bool.{true, not, or-false, and-false}
-use mathlib.Core.List.{List, [], ◌∷◌}
-use Prim.Native.Nat.{ℕ, zero, suc, ◌+◌, ◌*◌, ◌≤◌, ◌<◌}
-use native.Mathlib.Omega.{arith}
 use Rattle.sets.proofs.laws.Bools.{not_false, eqb_same, ne_eqb}
 use Rattle.sets.specs.Set.{digit}
 use Rattle.sets.specs.Sums.{sum}

@@ -1,10 +1,8 @@
 -- Rounds are a run of accepted forwards like any other, and so end where every order ends; a shortest chain has fewer than N links. Assumes nothing.
-use Rattle.std.specs.Prelude.{◌≡◌, ◌⊎◌, true, List, [], ◌++◌, length}
+use Rattle.std.specs.Prelude.{◌≡◌, ◌⊎◌, true, List, [], ◌++◌, length, ℕ, zero, suc, ◌≤◌, ◌<◌}
+use Rattle.std.proofs.Common.{sym, ◌∙◌, ap, length-append, arith}
 use Rattle.std.proofs.Math.Path.{refl}
-use Rattle.std.proofs.Common.{sym, ◌∙◌, ap, length-append}
 use Rattle.std.proofs.Math.Logic.{inl, inr}
-use Prim.Native.Nat.{ℕ, zero, suc, ◌≤◌, ◌<◌}
-use native.Mathlib.Omega.{arith}
 use Rattle.sets.proofs.laws.Bools.{clash, or_yes}
 use Rattle.flooding.specs.Network.{Net, Sound, forward, Quiet, Reached, Shortest}
 use Rattle.flooding.specs.Counts.{unseen_pairs}

@@ -1,10 +1,8 @@
 -- The drain of a machine: the page's records Drains and Finishes, and that Drains settles the answer. Assumes nothing.
-use Rattle.std.specs.Prelude.{◌≡◌, ◌⊎◌, false, take}
-use Rattle.std.proofs.Math.Path.{refl, sym, ap}
+use Rattle.std.specs.Prelude.{◌≡◌, ◌⊎◌, false, take, List, [], ◌∷◌, ◌++◌, ℕ, zero, suc, ◌+◌, ◌-◌, ◌*◌, ◌≤◌, ◌<◌}
 use Rattle.std.proofs.Common.{◌∙◌, arith, length-append, length-take}
+use Rattle.std.proofs.Math.Path.{refl, sym, ap}
 use Rattle.std.proofs.Math.Logic.{inl, inr}
-use mathlib.Core.List.{List, [], ◌∷◌, ◌++◌}
-use Prim.Native.Nat.{ℕ, zero, suc, ◌+◌, ◌-◌, ◌*◌, ◌≤◌, ◌<◌}
 use Rattle.std.proofs.Math.ListN.{length}
 use Rattle.flooding.specs.Network.{Net, Quiet}
 use Rattle.flooding.specs.Counts.{unseen_pairs}

@@ -1,9 +1,7 @@
 -- A machine whose forward shows the network's forward floods as the network does: the page's record Floods. Assumes nothing.
-use Rattle.std.specs.Prelude.{◌≡◌, ◌⊎◌, ◌↔◌, true, false, length}
-use Rattle.std.proofs.Math.Path.{refl, ap}
+use Rattle.std.specs.Prelude.{◌≡◌, ◌⊎◌, ◌↔◌, true, false, length, List, [], ◌∷◌, ℕ, zero, suc, ◌+◌, ◌<◌}
 use Rattle.std.proofs.Common.{sym, ◌∙◌, subst, inl, inr, arith}
-use mathlib.Core.List.{List, [], ◌∷◌}
-use Prim.Native.Nat.{ℕ, zero, suc, ◌+◌, ◌<◌}
+use Rattle.std.proofs.Math.Path.{refl, ap}
 use Rattle.flooding.specs.Network.{Net, Sound, forward, Quiet, Chain, holds, Reached, Linked}
 use Rattle.flooding.specs.Counts.{unseen_pairs}
 use Rattle.flooding.specs.Machine.{Pair, pair, run, Accepts, todo, due, round, rounds}

@@ -1,9 +1,7 @@
 -- Forwarding by rounds: after k rounds the pending desks are those whose shortest chain has k links. Assumes nothing.
-use Rattle.std.specs.Prelude.{◌≡◌, ◌⊎◌, true, false, ◌||◌}
-use Rattle.std.proofs.Common.{sym, ◌∙◌, inr}
+use Rattle.std.specs.Prelude.{◌≡◌, ◌⊎◌, true, false, ◌||◌, ℕ, zero, suc, ◌<◌}
+use Rattle.std.proofs.Common.{sym, ◌∙◌, inr, arith}
 use Rattle.std.proofs.Math.Logic.{inl}
-use Prim.Native.Nat.{ℕ, zero, suc, ◌<◌}
-use native.Mathlib.Omega.{arith}
 use Rattle.sets.proofs.laws.Bools.{either, clash, not_false, or_yes, or_right, below_suc}
 use Rattle.flooding.specs.Network.{Net, Sound, link, Chain, holds, link_to, Shortest}
 use Rattle.flooding.specs.Machine.{rounds}

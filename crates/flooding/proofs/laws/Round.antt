@@ -1,9 +1,8 @@
 -- What one round does: its list is what was pending when it began, each forward of it is accepted, and soundness is kept. Assumes nothing.
-use Rattle.std.specs.Prelude.{◌≡◌, ◌⊎◌, Bool, not, cond, ◌&&◌, ◌||◌, List, [], ◌∷◌, ◌++◌, eqb}
-use Rattle.std.proofs.Math.Path.{refl, sym}
+use Rattle.std.specs.Prelude.{◌≡◌, ◌⊎◌, Bool, not, cond, ◌&&◌, ◌||◌, List, [], ◌∷◌, ◌++◌, eqb, ℕ, zero, suc, ◌<◌}
 use Rattle.std.proofs.Common.{◌∙◌, inl, inr, arith, eqb-true}
+use Rattle.std.proofs.Math.Path.{refl, sym}
 use Rattle.std.proofs.Math.Bool.{true, false, or-false}
-use Prim.Native.Nat.{ℕ, zero, suc, ◌<◌}
 use Rattle.sets.proofs.laws.Bools.{clash, not_false, bool_ext, and_yes, or_yes, or_right, not_yes, eqb_same, below_suc}
 use Rattle.flooding.specs.Network.{Net, Sound, link, at, forward}
 use Rattle.flooding.specs.Machine.{Pair, pair, run, row, todo, round, rounds}

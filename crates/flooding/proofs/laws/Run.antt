@@ -1,8 +1,7 @@
 -- What a list of forwards makes of a network, in one formula; which of that is a chain; the end of every order. Assumes nothing.
-use Rattle.std.specs.Prelude.{◌≡◌, refl, ◌⊎◌, ◌↔◌, Bool, true, false, not, ◌&&◌, ◌||◌, ℕ, zero, suc, eqb, take}
+use Rattle.std.specs.Prelude.{◌≡◌, refl, ◌⊎◌, ◌↔◌, Bool, true, false, not, ◌&&◌, ◌||◌, ℕ, zero, suc, eqb, take, List, [], ◌∷◌, ◌++◌}
 use Rattle.std.proofs.Common.{sym, ◌∙◌, inl, inr, eqb-true}
 use Rattle.std.proofs.Math.Bool.{or-false, or-true, and-false}
-use mathlib.Core.List.{List, [], ◌∷◌, ◌++◌}
 use Rattle.sets.proofs.laws.Bools.{either, clash, bool_ext, and_yes, or_yes, or_no, or_right, not_yes, eqb_same}
 use Rattle.flooding.specs.Network.{Net, Sound, link, at, forward, Quiet, Chain, holds, link_to, Reached}
 use Rattle.flooding.specs.Machine.{Pair, pair, run, Accepts}

@@ -1,10 +1,8 @@
 -- What a forward delivers: one pair is no longer pending, and each delivery is one more. Assumes nothing.
-use Rattle.std.specs.Prelude.{◌≡◌, ◌⊎◌, Bool, true, false, not, ◌&&◌, ◌||◌, eqb, length}
-use Rattle.std.proofs.Math.Path.{refl}
+use Rattle.std.specs.Prelude.{◌≡◌, ◌⊎◌, Bool, true, false, not, ◌&&◌, ◌||◌, eqb, length, List, [], ◌∷◌, ℕ, suc, ◌+◌}
 use Rattle.std.proofs.Common.{◌∙◌, ap, inl, inr, arith, eqb-true}
+use Rattle.std.proofs.Math.Path.{refl}
 use Rattle.std.proofs.Math.Bool.{or-false, and-false}
-use mathlib.Core.List.{List, [], ◌∷◌}
-use Prim.Native.Nat.{ℕ, suc, ◌+◌}
 use Rattle.sets.proofs.laws.Bools.{either, eqb_same, ne_eqb}
 use Rattle.sets.specs.Set.{digit}
 use Rattle.sets.specs.Sums.{sum}

@@ -1,11 +1,11 @@
 -- Which number a record's first failing rule has, from what the code tests; that a record with none keeps them all; and the verdict on all
 -- records. Assumes nothing.
 use Rattle.std.specs.Prelude.{◌≡◌, refl, Bool, true, false, cond, ◌&&◌, List, ℕ, suc, ◌+◌, ◌≤◌, ◌<◌, ltb, get_or}
-use Rattle.std.proofs.Common.{sym, ◌∙◌, ⊎_elim, arith}
+use Rattle.std.proofs.Common.{sym, ◌∙◌, ⊎_elim, arith, lt-ltb, le-ltb, ltb-true, ltb-false, eq-eqb, eqb-true}
 use Rattle.std.proofs.Math.Path.{ap}
 use Rattle.std.proofs.Math.Bool.{not}
 use Rattle.std.proofs.Math.Dec.{eqb}
-use borrow.Author.Tests.{lt-ltb, le-ltb, ltb-true, ltb-false, eq-eqb, eqb-true, eqb-false}
+use borrow.Author.Tests.{eqb-false}
 use Rattle.sets.proofs.laws.Bools.{not_false, not_yes, not_no, and_both, and_yes, ne_eqb, below_suc}
 use Rattle.sets.proofs.laws.Least.{lowest_of_least, lowest_of_lt_holds, lowest_of_is, lowest_of_none, lowest_of_same}
 use Rattle.sets.specs.Any.{all}

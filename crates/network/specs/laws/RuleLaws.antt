@@ -1,10 +1,10 @@
 -- Each rule of a present record in observations, both ways; and the lowest peer or topic that breaks one. Assumes nothing.
 use Rattle.std.specs.Prelude.{◌≡◌, refl, Bool, true, false, cond, eqb, ◌&&◌, ◌||◌, ℕ, ◌≤◌, ◌<◌}
-use Rattle.std.proofs.Common.{sym, ◌∙◌, ⊎_elim, arith}
+use Rattle.std.proofs.Common.{sym, ◌∙◌, ⊎_elim, arith, eq-eqb, eqb-true}
 use Rattle.std.proofs.Math.Path.{ap}
 use Rattle.std.proofs.Math.Bool.{not}
 use Rattle.std.proofs.Math.Decide.{dec_lt}
-use borrow.Author.Tests.{eq-eqb, eqb-true, eqb-false}
+use borrow.Author.Tests.{eqb-false}
 use Rattle.sets.specs.Set.{has, meet, set_of, lowest}
 use Rattle.sets.proofs.laws.Bools.{either, clash, not_false, not_yes, not_no, and_yes, apart, apart_not, apart_same, not_own, implied, implies}
 use Rattle.sets.proofs.laws.Members.{has_meet}

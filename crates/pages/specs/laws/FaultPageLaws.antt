@@ -1,11 +1,9 @@
 -- The proof of specs/FaultPage.antt: of one record, of the verdict on all, of reading and of writing. Assumes nothing.
-use Rattle.std.specs.Prelude.{◌≡◌, Bool, true, ◌&&◌, List, eqb, length, get_or}
+use Rattle.std.specs.Prelude.{◌≡◌, Bool, true, ◌&&◌, List, eqb, length, get_or, ℕ, ◌+◌, ◌*◌, ◌<◌}
+use Rattle.std.proofs.Common.{subst, ◌∙◌, eqb-true, arith}
 use Rattle.std.proofs.Math.Path.{refl, sym, ap}
-use Rattle.std.proofs.Common.{subst, ◌∙◌, eqb-true}
 use Rattle.std.proofs.Math.Logic.{⊎_elim}
 use Rattle.std.proofs.Math.Bool.{false, and-false}
-use Prim.Native.Nat.{ℕ, ◌+◌, ◌*◌, ◌<◌}
-use native.Mathlib.Omega.{arith}
 use Rattle.std.proofs.Math.Decide.{dec_lt}
 use Rattle.std.proofs.lemmas.Bool.{eqb-false}
 use Rattle.sets.specs.Set.{digit}

@@ -1,10 +1,8 @@
 -- The event bytes of a list of forwards, their records one after another: they read as these forwards, so that every list that the client's page
 -- speaks of is a run (specs/ReachPage.antt). Assumes nothing.
-use Rattle.std.specs.Prelude.{◌≡◌, List, [], ◌∷◌, ◌++◌, length, get_or}
+use Rattle.std.specs.Prelude.{◌≡◌, List, [], ◌∷◌, ◌++◌, length, get_or, ℕ, zero, suc, ◌+◌, ◌*◌, ◌/◌, ◌<◌}
+use Rattle.std.proofs.Common.{◌∙◌, get_or-append-add, arith}
 use Rattle.std.proofs.Math.Path.{sym, ap, ap₂}
-use Rattle.std.proofs.Common.{◌∙◌, get_or-append-add}
-use Prim.Native.Nat.{ℕ, zero, suc, ◌+◌, ◌*◌, ◌/◌, ◌<◌}
-use native.Mathlib.Omega.{arith}
 use Rattle.std.proofs.Math.ListN.{length-append, get_or-append}
 use Rattle.endian.specs.Le.{le}
 use Rattle.endian.specs.laws.Le.{Bytes, le_same}

@@ -1,8 +1,7 @@
 -- A run over forward records, and single forwards one after another, leave what the client's page says (specs/ReachPage.antt). Assumes nothing.
-use Rattle.std.specs.Prelude.{◌≡◌, refl, ℕ, suc, ◌+◌, ◌/◌, ◌%◌, ◌<◌, length, Some, Ok}
+use Rattle.std.specs.Prelude.{◌≡◌, refl, ℕ, suc, ◌+◌, ◌/◌, ◌%◌, ◌<◌, length, Some, Ok, List, [], ◌∷◌}
 use Rattle.std.proofs.Common.{sym, subst, ◌∙◌, arith, lt-ltb}
 use Rattle.std.proofs.Math.Path.{ap}
-use mathlib.Core.List.{List, [], ◌∷◌}
 use Rattle.std.proofs.Math.Decide.{ℕ_discrete}
 use Rattle.sets.proofs.laws.Bools.{ne_eqb}
 use Rattle.endian.specs.laws.Le.{Bytes}

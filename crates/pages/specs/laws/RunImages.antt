@@ -1,11 +1,9 @@
 -- Demand 2 over a run: "Seen through the commitment map, it is one Broadcastnet step or no change". The events that a run takes are a list
 -- of accepted events in the sense of broadcastnet's page, and the network it ends in is theirs; so the images of the states along a run are
 -- a computation of Broadcastnet. Assumes nothing.
-use Rattle.std.specs.Prelude.{◌≡◌, Bool, true, false, cond, eqb, length, Some, Ok, None, Err}
-use Rattle.std.proofs.Math.Path.{refl, subst}
-use mathlib.Core.List.{List, [], ◌∷◌}
-use Prim.Native.Nat.{ℕ, zero, suc, ◌+◌, ◌/◌}
+use Rattle.std.specs.Prelude.{◌≡◌, Bool, true, false, cond, eqb, length, Some, Ok, None, Err, List, [], ◌∷◌, ℕ, zero, suc, ◌+◌, ◌/◌}
 use Rattle.std.proofs.Common.{arith, eqb-true}
+use Rattle.std.proofs.Math.Path.{refl, subst}
 use Rattle.endian.specs.laws.Le.{Bytes}
 use Rattle.network.specs.declared.Network.{Network}
 use Rattle.network.specs.declared.Table.{Table}

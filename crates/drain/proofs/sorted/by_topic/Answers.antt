@@ -1,5 +1,5 @@
 -- `drain::sorted::by_topic` meets its contract. The loop has put the messages visited into the words of their topics. Assumes nothing.
-use borrow.Author.Rules.{rules}
+use Rattle.std.proofs.Common.{rules}
 use Rattle.drain.proofs.Filing.{sorting_none, sorting_more, sorting_done}
 use Rattle.drain.proofs.sorted.by_topic.Goals as goal
 

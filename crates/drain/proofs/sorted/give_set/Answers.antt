@@ -1,6 +1,5 @@
 -- `drain::sorted::give_set` meets its contract. Assumes nothing.
-use borrow.Author.Rules.{rules}
-use mathlib.Core.Path.{ap, ◌∙◌}
+use Rattle.std.proofs.Common.{rules, ap, ◌∙◌}
 use Rattle.sets.specs.Set.{union, puts}
 use Rattle.lists.specs.laws.Visit.{visiting_none, visiting_wide, visiting_done, visits_edit}
 use Rattle.drain.specs.AtOnce.{gives}

@@ -1,5 +1,5 @@
 -- The invariants of `drain::sorted::give_set`. Assumes nothing.
-use lib.ListN.{get_or}
+use Rattle.std.specs.Prelude.{get_or}
 use Rattle.sets.specs.Set.{minus, puts}
 use Rattle.lists.specs.laws.Visit.{Visiting}
 use Rattle.drain.proofs.sorted.give_set.Given as goal

@@ -1,5 +1,5 @@
 -- `drain::sorted::topics_of` meets its contract. The loop has the topics of the messages visited. Assumes nothing.
-use borrow.Author.Rules.{rules}
+use Rattle.std.proofs.Common.{rules}
 use Rattle.drain.proofs.Filing.{using_none, using_more, using_done}
 use Rattle.drain.proofs.sorted.topics_of.Goals as goal
 

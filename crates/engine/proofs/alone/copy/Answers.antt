@@ -1,5 +1,5 @@
 -- `engine::alone::copy` meets its contract. Assumes nothing.
-use mathlib.Core.Path.{refl}
+use Rattle.std.specs.Prelude.{refl}
 use Rattle.std.proofs.lemmas.Result.{err_from_is_err_and}
 use Rattle.engine.proofs.AloneLaws.{copy_refused, copy_short, copy_done}
 use Rattle.engine.proofs.Lent.{opened_is}

@@ -1,8 +1,6 @@
 -- `engine::alone::forward` meets its contract. Assumes nothing.
-use borrow.Author.Rules.{rules}
-use mathlib.Core.Path.{refl, sym, ap}
-use Prim.Native.Nat.{ℕ}
-use native.Mathlib.Omega.{arith}
+use Rattle.std.specs.Prelude.{refl, ℕ}
+use Rattle.std.proofs.Common.{rules, sym, ap, arith}
 use Rattle.std.proofs.lemmas.Result.{err_from_is_err_and}
 use Rattle.engine.specs.laws.ForwardAlone.{forward_begun, forward_read, forward_peer, forward_message, forward_refused, forward_done}
 use Rattle.engine.specs.Alone.{forwarded_by}

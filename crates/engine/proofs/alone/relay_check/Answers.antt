@@ -1,5 +1,5 @@
 -- `engine::alone::relay_check` meets its contract. Assumes nothing.
-use mathlib.Core.Path.{◌∙◌}
+use Rattle.std.proofs.Common.{◌∙◌}
 use Rattle.engine.proofs.AloneLaws.{check_is}
 use Rattle.engine.proofs.Lent.{opened_is}
 use Rattle.engine.proofs.alone.relay_check.Goals as goal

@@ -1,5 +1,5 @@
 -- `engine::imaging::imaged` meets its contract. Assumes nothing.
-use mathlib.Core.Path.{refl}
+use Rattle.std.specs.Prelude.{refl}
 use Rattle.std.proofs.lemmas.Result.{err_from_is_err_and}
 use Rattle.engine.proofs.ImagingLaws.{image_refused, image_short, image_done}
 use Rattle.engine.proofs.Lent.{opened_is}

@@ -1,8 +1,6 @@
 -- `engine::running::run_events` meets its contract. The loop keeps `Going`: the rest of the run, from here, ends as the whole does. Assumes nothing.
-use mathlib.Core.Path.{sym, ap, ◌∙◌}
-use Prim.Native.Nat.{ℕ, ◌≤◌}
-use borrow.Author.Rules.{rules}
-use native.Mathlib.Omega.{arith}
+use Rattle.std.specs.Prelude.{ℕ, ◌≤◌}
+use Rattle.std.proofs.Common.{sym, ap, ◌∙◌, rules, arith}
 use Rattle.sets.specs.Set.{size}
 use Rattle.sets.proofs.laws.Sizes.{size_le}
 use Rattle.engine.specs.Run.{answered, tallied_of, run_all}

@@ -1,6 +1,6 @@
 -- `network::Network::open` meets its contract. Assumes nothing.
-use mathlib.Core.Path.{refl, ap, ◌∙◌}
-use lib.ListN.{length}
+use Rattle.std.specs.Prelude.{refl, length}
+use Rattle.std.proofs.Common.{ap, ◌∙◌}
 use Rattle.network.specs.laws.Opening.{net_is, verdict_at_lem, opens_1, opens_verdict, opens_same}
 use Rattle.network.proofs.Network.open.Goals as goal
 

@@ -1,5 +1,5 @@
 -- The invariants of `network::Network::save`. Assumes nothing.
-use Prim.Native.Nat.{◌*◌}
+use Rattle.std.specs.Prelude.{◌*◌}
 use Rattle.lists.specs.Tab.{Filled}
 use Rattle.network.specs.State.{byte_of}
 use Rattle.network.proofs.Network.save.Given as goal

@@ -1,6 +1,5 @@
 -- The invariants of `network::Network::save_messages`. Assumes nothing.
-use mathlib.Core.Path.{◌≡◌}
-use lib.ListN.{length}
+use Rattle.std.specs.Prelude.{◌≡◌, length}
 use Rattle.network.specs.Storing.{put_messages}
 use Rattle.network.proofs.Network.save_messages.Given as goal
 

@@ -1,5 +1,6 @@
 -- `network::Network::write` meets its contract. Assumes nothing.
-use mathlib.Core.Path.{◌∙◌, refl}
+use Rattle.std.specs.Prelude.{refl}
+use Rattle.std.proofs.Common.{◌∙◌}
 use Rattle.std.proofs.lemmas.Result.{err_from_is_err_and}
 use Rattle.network.specs.laws.Faults.{verdict_tab}
 use Rattle.network.specs.laws.Numbers.{refusal_not_0}

@@ -1,5 +1,5 @@
 -- The invariants of `network::load::fill_known`. Assumes nothing.
-use Prim.Native.Nat.{◌*◌}
+use Rattle.std.specs.Prelude.{◌*◌}
 use Rattle.lists.specs.Tab.{Filled}
 use Rattle.network.specs.State.{known_in}
 use Rattle.network.proofs.load.fill_known.Given as goal

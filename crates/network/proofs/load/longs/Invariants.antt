@@ -1,5 +1,5 @@
 -- The invariants of `network::load::longs`. Assumes nothing.
-use Prim.Native.Nat.{ℕ}
+use Rattle.std.specs.Prelude.{ℕ}
 use Rattle.lists.specs.Tab.{Filled}
 use Rattle.network.specs.State.{long_in}
 use Rattle.network.proofs.load.longs.Given as goal

@@ -1,6 +1,5 @@
 -- The invariants of `network::load::put_row`. Assumes nothing.
-use mathlib.Core.Path.{◌≡◌}
-use lib.ListN.{length}
+use Rattle.std.specs.Prelude.{◌≡◌, length}
 use Rattle.network.specs.Layout.{RowStored}
 use Rattle.network.proofs.load.put_row.Given as goal
 

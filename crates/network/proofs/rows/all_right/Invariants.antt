@@ -1,7 +1,5 @@
 -- The invariants of `network::rows::all_right`. Assumes nothing.
-use mathlib.Core.Path.{◌≡◌}
-use Prim.Native.Nat.{ℕ}
-use lib.ListN.{get_or}
+use Rattle.std.specs.Prelude.{◌≡◌, ℕ, get_or}
 use Rattle.sets.specs.Any.{all}
 use Rattle.network.specs.RowWords.{word_right}
 use Rattle.network.proofs.rows.all_right.Given as goal

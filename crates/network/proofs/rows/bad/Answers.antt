@@ -1,7 +1,6 @@
 -- `network::rows::bad` meets its contract. Assumes nothing.
-use borrow.Author.Rules.{rules}
-use mathlib.Core.Path.{sym, ap, ◌∙◌}
-use mathlib.Core.Bool.{not}
+use Rattle.std.specs.Prelude.{not}
+use Rattle.std.proofs.Common.{rules, sym, ap, ◌∙◌}
 use Rattle.sets.proofs.laws.Least.{lowest_of_all, lowest_of_found}
 use Rattle.network.specs.RowWords.{bad_word}
 use Rattle.network.proofs.rows.bad.Goals as goal

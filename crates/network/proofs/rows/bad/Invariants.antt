@@ -1,8 +1,5 @@
 -- The invariants of `network::rows::bad`. Assumes nothing.
-use mathlib.Core.Path.{◌≡◌}
-use mathlib.Core.Bool.{not}
-use Prim.Native.Nat.{ℕ}
-use lib.ListN.{get_or}
+use Rattle.std.specs.Prelude.{◌≡◌, not, ℕ, get_or}
 use Rattle.sets.specs.Least.{lowest_of}
 use Rattle.network.specs.RowWords.{word_right}
 use Rattle.network.proofs.rows.bad.Given as goal

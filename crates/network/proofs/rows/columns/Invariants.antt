@@ -1,6 +1,5 @@
 -- The invariants of `network::rows::columns`. Assumes nothing.
-use Prim.Native.Nat.{ℕ, ◌/◌, ◌%◌}
-use lib.ListN.{get_or}
+use Rattle.std.specs.Prelude.{ℕ, ◌/◌, ◌%◌, get_or}
 use Rattle.lists.specs.Tab.{Filled}
 use Rattle.network.proofs.rows.columns.Given as goal
 

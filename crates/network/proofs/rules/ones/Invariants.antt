@@ -1,8 +1,5 @@
 -- The invariants of `network::rules::ones`. Assumes nothing.
-use mathlib.Core.Path.{◌≡◌}
-use Prim.Native.Nat.{ℕ, ◌%◌}
-use lib.Dec.{eqb}
-use lib.ListN.{get_or}
+use Rattle.std.specs.Prelude.{◌≡◌, ℕ, ◌%◌, eqb, get_or}
 use Rattle.sets.specs.Set.{set_of}
 use Rattle.network.proofs.rules.ones.Given as goal
 

@@ -1,8 +1,6 @@
 -- `network::rules::row_known` meets its contract. Assumes nothing.
-use borrow.Author.Rules.{rules}
-use mathlib.Core.Path.{sym, ap, ◌∙◌}
-use mathlib.Core.Bool.{not}
-use borrow.Author.Tests.{ne_eqb}
+use Rattle.std.specs.Prelude.{not}
+use Rattle.std.proofs.Common.{rules, sym, ap, ◌∙◌, ne_eqb}
 use Rattle.sets.proofs.laws.Least.{lowest_of_all, lowest_of_found}
 use Rattle.network.specs.Tests.{row_known}
 use Rattle.network.proofs.Tests.{known_at_lem}

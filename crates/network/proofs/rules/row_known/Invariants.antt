@@ -1,7 +1,5 @@
 -- The invariants of `network::rules::row_known`. Assumes nothing.
-use mathlib.Core.Path.{◌≡◌}
-use mathlib.Core.Bool.{not}
-use Prim.Native.Nat.{ℕ}
+use Rattle.std.specs.Prelude.{◌≡◌, not, ℕ}
 use Rattle.sets.specs.Least.{lowest_of}
 use Rattle.network.specs.Tests.{same_at}
 use Rattle.network.proofs.rules.row_known.Given as goal

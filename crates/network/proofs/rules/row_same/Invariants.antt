@@ -1,8 +1,5 @@
 -- The invariants of `network::rules::row_same`. Assumes nothing.
-use mathlib.Core.Path.{◌≡◌}
-use Prim.Native.Nat.{ℕ, ◌+◌}
-use lib.Dec.{eqb}
-use lib.ListN.{get_or}
+use Rattle.std.specs.Prelude.{◌≡◌, ℕ, ◌+◌, eqb, get_or}
 use Rattle.sets.specs.Set.{meet}
 use Rattle.sets.specs.Any.{all}
 use Rattle.network.proofs.rules.row_same.Given as goal

@@ -1,5 +1,5 @@
 -- The invariants of `network::rules::subscribers`. Assumes nothing.
-use mathlib.Core.Path.{◌≡◌}
+use Rattle.std.specs.Prelude.{◌≡◌}
 use Rattle.lists.specs.Tab.{tab}
 use Rattle.network.proofs.Gathering.{up_to}
 use Rattle.network.proofs.rules.subscribers.Given as goal

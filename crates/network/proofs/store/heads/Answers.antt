@@ -1,10 +1,7 @@
 -- `network::store::heads` meets its contract. Assumes nothing.
-use borrow.Author.Rules.{rules}
-use mathlib.Core.Path.{◌≡◌, refl, ap, ◌∙◌}
-use mathlib.Core.Bool.{Bool, true, false}
-use Prim.Native.Nat.{ℕ, ◌^◌, ◌<◌}
-use native.Mathlib.Omega.{arith}
-use lib.ListN.{replicate, length-replicate, get_or-replicate}
+use Rattle.std.specs.Prelude.{◌≡◌, refl, Bool, true, false, ℕ, ◌^◌, ◌<◌, replicate}
+use Rattle.std.proofs.Common.{rules, ap, ◌∙◌, arith}
+use lib.ListN.{length-replicate, get_or-replicate}
 use Rattle.sets.specs.Set.{has, when, digit}
 use Rattle.sets.specs.Rising.{members}
 use Rattle.lists.specs.Tab.{tab}

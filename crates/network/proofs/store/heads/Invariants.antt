@@ -1,5 +1,5 @@
 -- The invariants of `network::store::heads`. Assumes nothing.
-use Prim.Native.Nat.{ℕ}
+use Rattle.std.specs.Prelude.{ℕ}
 use Rattle.lists.specs.laws.Visit.{Visiting}
 use Rattle.network.proofs.store.heads.Given as goal
 

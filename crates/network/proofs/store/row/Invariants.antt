@@ -1,6 +1,5 @@
 -- The invariants of `network::store::row`. Assumes nothing.
-use mathlib.Core.Path.{◌≡◌}
-use lib.ListN.{length}
+use Rattle.std.specs.Prelude.{◌≡◌, length}
 use Rattle.network.specs.Storing.{put_row}
 use Rattle.network.proofs.store.row.Given as goal
 

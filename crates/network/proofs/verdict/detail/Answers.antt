@@ -1,6 +1,6 @@
 -- `network::verdict::detail` meets its contract. Assumes nothing.
-use mathlib.Core.Path.{ap, ◌∙◌}
 use Rattle.std.specs.Prelude.{unwrap_or}
+use Rattle.std.proofs.Common.{ap, ◌∙◌}
 use Rattle.network.specs.Refusal.{number_of}
 use Rattle.network.specs.laws.Faults.{detail_23, detail_24, detail_25}
 use Rattle.network.specs.laws.Refusal.{detail_else}

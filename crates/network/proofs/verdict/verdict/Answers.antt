@@ -1,5 +1,5 @@
 -- `network::verdict::verdict` meets its contract. Assumes nothing.
-use borrow.Author.Rules.{rules}
+use Rattle.std.proofs.Common.{rules}
 use Rattle.network.specs.laws.Faults.{verdict_one}
 use Rattle.network.specs.laws.Numbers.{refusal_not_0}
 use Rattle.network.proofs.verdict.verdict.Goals as goal

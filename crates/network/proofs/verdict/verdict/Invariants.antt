@@ -1,7 +1,5 @@
 -- The invariants of `network::verdict::verdict`. Assumes nothing.
-use mathlib.Core.Path.{◌≡◌}
-use Prim.Native.Nat.{ℕ, ◌<◌}
-use lib.ListN.{get_or}
+use Rattle.std.specs.Prelude.{◌≡◌, ℕ, ◌<◌, get_or}
 use Rattle.network.specs.Network.{peer}
 use Rattle.network.specs.Rules.{fault_of}
 use Rattle.network.proofs.verdict.verdict.Given as goal

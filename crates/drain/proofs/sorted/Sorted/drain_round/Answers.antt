@@ -1,5 +1,5 @@
 -- `drain::sorted::Sorted::drain_round` meets its contract. Assumes nothing.
-use mathlib.Core.Path.{refl}
+use Rattle.std.specs.Prelude.{refl}
 use Rattle.drain.specs.laws.Turns.{peers_none, peers_more}
 use Rattle.drain.proofs.sorted.Sorted.drain_round.Goals as goal
 

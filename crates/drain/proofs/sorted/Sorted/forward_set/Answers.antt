@@ -1,5 +1,5 @@
 -- `drain::sorted::Sorted::forward_set` meets its contract. The loop has spread the messages whose topic is not left. Assumes nothing.
-use borrow.Author.Rules.{rules}
+use Rattle.std.proofs.Common.{rules}
 use Rattle.drain.proofs.AtOnce.{spreading_none, spreading_more, spreading_skip, spreading_done}
 use Rattle.drain.proofs.AtOnceForwards.{forwards_at_once}
 use Rattle.drain.proofs.sorted.Sorted.forward_set.Goals as goal

@@ -1,5 +1,5 @@
 -- `drain::sorted::Sorted::new` meets its contract. Assumes nothing.
-use borrow.Author.Rules.{rules}
+use Rattle.std.proofs.Common.{rules}
 use Rattle.drain.proofs.Filing.{own_topics, all_filed}
 use Rattle.drain.proofs.sorted.Sorted.new.Goals as goal
 

@@ -30,11 +30,7 @@ fn run(state: &[u8], table: &[u8], events: &[u8], out: &mut [u8]) -> usize
         Ok(begun) => begun,
     };
     let mut n = begun.network;
-    let mut tally = Tally {
-        produced: 0,
-        forwards: 0,
-        deliveries: 0,
-    };
+    let mut tally = Tally::default();
     let answer = engine::running::run_events(&mut n, &begun.table, events, &mut tally);
     let show = report::shown(answer.number);
     report::report(answer.number, answer.place, answer.accepted, &n, show, out)

@@ -25,7 +25,7 @@ use network::{Network, Refused, Table};
 
 // The counts that a host lends: updated event by event.
 #[repr(C)]
-#[derive(Clone, Copy, Debug, PartialEq, Eq)]
+#[derive(Clone, Copy, Debug, Default, PartialEq, Eq)]
 pub struct Tally {
     pub produced: u64,
     pub forwards: u64,

@@ -36,11 +36,7 @@ pub fn run_events(n: &mut Network, rows: &Table, events: &[u8], tally: &mut Tall
     requires { Rows rows.now }
     ensures { RunsTo (ran result n.new) tally.new (run_all events.now rows.now n.old) }
 {
-    *tally = Tally {
-        produced: 0,
-        forwards: 0,
-        deliveries: 0,
-    };
+    *tally = Tally::default();
     let count = events.len() / 16;
     for place in 0..count {
         let turned = turn(&mut *n, rows, events::event_at(events, place));

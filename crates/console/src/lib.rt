@@ -36,7 +36,7 @@ fn run(state: &[u8], table: &[u8], events: &[u8], out: &mut [u8]) -> usize
     report::report(answer.number, answer.place, answer.accepted, &n, show, out)
 }
 
-// What the program prints for its input; answers its length.
+// What the program prints for its input, into what is lent (no heap); answers its length.
 pub fn answer(input: &[u8], out: &mut [u8]) -> usize
     ensures { Printed (flood_of input.now) out.old out.new result }
 {

@@ -36,7 +36,7 @@ fn how_many(w: u64) -> u32
     ensures { (result ≡ count 64 (has w)) × (result ≤ 64) × (w < 2 ^ 64) }
 {
     if w == 0 {
-        return 0;
+        return 0; // a count
     }
     w.size()
 }
@@ -54,7 +54,7 @@ fn waiting(pending: &[u64; 32]) -> u32
     total
 }
 
-// Every message that is pending somewhere.
+// Every message that is pending somewhere. (broadcastnet's `underway` is the same walk, and says why there are two.)
 #[tactic(auto, unfolding(crate::specs::AtOnce::anywhere_of))]
 fn anywhere(pending: &[u64; 32]) -> u64
     ensures { result ≡ anywhere_of pending.now 32 }

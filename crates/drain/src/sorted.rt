@@ -48,7 +48,9 @@ fn give_set(pending: &mut [u64; 32], seen: &[u64; 32], s: u32, w: u64)
     }
 }
 
-// A message table, and messages sorted by its topics: those of each topic in a word, and the topics that have any.
+// A message table, and messages sorted by its topics: those of each topic in a word, and the topics that have any. (That what is to be forwarded is among
+// those sorted, `AllFiled` and `EachFiled`, is a fact of the network, too, which a drain changes: it is a clause, and no ghost field. `TopicsFit` is one of
+// the table, which holds any columns.)
 #[derive(Drop)]
 pub(crate) struct Sorted<'a> {
     table: &'a Table,
@@ -99,7 +101,7 @@ impl<'a> Sorted<'a> {
         ensures leads { n.new ≡ run (fwd self.now.table.now) n.old (take left (pairs_of p.0 todo 64)) }
     {
         if todo == 0 {
-            return 0;
+            return 0; // a count
         }
         let all = how_many(todo);
         if all <= left {

@@ -46,6 +46,7 @@ impl Little for u32 {
     }
 }
 
+// Each width names its own functions of the library: generic code has neither. (It is put as two halves: of the higher one the edit one_place_early speaks.)
 impl Little for u64 {
     ghost size = { 8 };
 

@@ -17,7 +17,7 @@ pub fn relay_check(state: &[u8]) -> Checked
     Checked::from(n.open(state))
 }
 
-// The state is read, and written where the other buffer has its length.
+// The state is read, and written where the other buffer has its length. (An image, imaging.rt, is written so, too: what the two share is `open` and `save`.)
 fn copy(from: &[u8], to: &mut [u8]) -> Result<(), Refused>
     ensures { (checked_as result ≡ copy_of from.now to.old) × (to.new ≡ copied_of from.now to.old) }
 {

@@ -1,4 +1,4 @@
-// The tally: an update by value, and the same on a tally that is lent, by the receivers of the event.
+// The tally: an update by value, and the same on a tally that is lent, by the receivers of the event: the form that document 01 names.
 ghost use Rattle.std.specs.Prelude.{◌≡◌};
 ghost use Rattle.sets.specs.Set.{size};
 ghost use Rattle.engine.specs.Run.{tallied_of, Room};

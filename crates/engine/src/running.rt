@@ -11,7 +11,7 @@ use events::kind::Kind;
 use floodnet::Turned;
 use network::{Network, Refusal, Refused, Table};
 
-// What was read is done, or refused as reading refuses it.
+// What was read is done, or refused as reading refuses it. (Where there is no event the kind is `Skip`, which counts nothing.)
 #[tactic(auto, unfolding(crate::specs::Run::turn_of, crate::specs::Run::ReadFits))]
 fn turn(n: &mut Network, rows: &Table, read: Option<Result<Event, Refusal>>) -> Turned
     requires fits { ReadFits read }
@@ -31,7 +31,8 @@ fn turn(n: &mut Network, rows: &Table, read: Option<Result<Event, Refusal>>) -> 
     }
 }
 
-// Every event of the list, on a network; the tally starts from zero.
+// Every event of the list, on a network; the tally starts from zero. (By place, and through no iterator: a run is defined over places, specs/Run.antt, and a
+// refusal answers its place.)
 pub fn run_events(n: &mut Network, rows: &Table, events: &[u8], tally: &mut Tally) -> Answer
     requires { Rows rows.now }
     ensures { RunsTo (ran result n.new) tally.new (run_all events.now rows.now n.old) }

@@ -28,7 +28,7 @@ pub(crate) fn start(
     n.open(state)
 }
 
-// The same by value.
+// The same by value, for the crate console: an entry point for C moves no 5 KB.
 pub fn begin(state: &[u8], table: &[u8], events: usize) -> Result<Begun, Refused>
     ensures { begun_of result ≡ begin_of state.now table.now events }
 {

@@ -4,6 +4,7 @@ ghost use Rattle.floodnet.specs.Topics.{subscribed_to, unsubscribed_from};
 ghost use Rattle.floodnet.specs.Links.{link_up, link_down, cleared, placed, left, joined};
 
 use super::{arrays, rows};
+use events::Joining;
 use network::{Network, Peer};
 use sets::Word;
 
@@ -18,7 +19,7 @@ pub(crate) fn subscribe(n: &mut Network, p: Peer, topics: u32)
     rows::in_rows(&mut n.known, n.neighbours[i], topics, |w| w.with(b));
 }
 
-// "Topics leave subs; neighbours' records follow."
+// "Topics leave subs; neighbours' records follow." (Why it is no one function with `subscribe`: turns.rt.)
 pub(crate) fn unsubscribe(n: &mut Network, p: Peer, topics: u32)
     requires { p.0 < 32 }
     ensures { n.new ≡ unsubscribed_from n.old p topics }
@@ -95,11 +96,11 @@ pub(crate) fn leave(n: &mut Network, p: Peer)
 
 // "Record made with nothing pending or seen; both sides record link and subscriptions."
 #[tactic(auto, unfolding(crate::specs::Links::joined))]
-pub(crate) fn join(n: &mut Network, p: Peer, subs: u32, pubs: u32, who: u32)
+pub(crate) fn join(n: &mut Network, p: Peer, j: Joining)
     requires { p.0 < 32 }
-    ensures { n.new ≡ joined n.old p subs pubs who }
+    ensures { n.new ≡ joined n.old p j.subs j.pubs j.neighbours }
 {
     clear(n, p);
-    place(n, p, subs, pubs);
-    link_up(n, p, who);
+    place(n, p, j.subs, j.pubs);
+    link_up(n, p, j.neighbours);
 }

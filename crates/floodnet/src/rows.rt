@@ -21,7 +21,7 @@ fn in_row<F: Fn(u32) -> u32>(known: &mut [u32; 1024], row: Peer, topics: u32, f:
     }
 }
 
-// All words of a row.
+// All words of a row. (No `in_row` of all topics: there is no word to take members from, and many words are done at once.)
 pub(crate) fn whole_row<F: Fn(u32) -> u32>(known: &mut [u32; 1024], row: Peer, f: F)
     requires always { F.IsAlwaysCallable f }
     requires row { row.0 < 32 }

@@ -78,6 +78,6 @@ pub(crate) fn join(n: &mut Network, p: Peer, j: Joining) -> Result<u32, Refusal>
     ensures { (b : Table) → Stepped n.old n.new b (Event.Join p j) (answer_to (Event.Join p j) result) }
 {
     refusals::of_join(n, p, j.neighbours)?;
-    links::join(n, p, j.subs, j.pubs, j.neighbours);
+    links::join(n, p, j);
     Ok(0)
 }

@@ -35,7 +35,8 @@ pub struct Topic(pub u8);
 #[derive(Clone, Copy, Debug, PartialEq, Eq)]
 pub struct Message(pub u8);
 
-// "Peers 0 to 31 [..] messages 0 to 63": a byte that is none of them is refused by 7. (One conversion for both would take the sorts as instances of a third.)
+// "Peers 0 to 31 [..] messages 0 to 63": a byte that is none of them is refused by 7. (The sorts are separate: one
+// conversion for both would need a third thing of which they are instances.)
 impl TryFrom<u8> for Peer {
     type Error = Refusal;
 
@@ -77,8 +78,8 @@ pub struct Network {
     pub known: [u32; 1024],
 }
 
-// The message table, read once: topic and origin of each message. It holds any columns, as `topic_of` answers for any; that its rows were accepted
-// is a clause (`Rows`) of what needs it.
+// The message table, read once: topic and origin of each message, in columns, of which the definitions speak. It holds any columns, as `topic_of` answers for
+// any; that its rows were accepted, or a topic is in range, is a clause (`Rows`, `TopicsFit`, or of `topic_of`) of what needs it.
 #[derive(Clone, Copy)]
 pub struct Table {
     pub topics: [u8; 64],
@@ -184,7 +185,8 @@ impl Network {
         opened
     }
 
-    // Writes the network's bytes. The buffer is a slice: its length is tested by those who lend it, in its place among the refusals.
+    // Writes the network's bytes. The buffer is a slice, here and in store.rt: its length is tested by those who lend it, in its place among the refusals. (This and
+    // `save_messages` are public and named in docs/PROMISES.md: an array would ask more of their callers.)
     #[tactic(auto, using(crate::proofs::Steps::filling, crate::specs::laws::Storing::filled_record), unfolding(crate::specs::State::bytes_of))]
     pub fn save(&self, state: &mut [u8])
         requires { length state.old ≡ 5120 }
@@ -197,7 +199,7 @@ impl Network {
         }
     }
 
-    // Writes pending and seen of every record into a state; its other bytes stay. Over the bytes of a network these are the bytes of that
+    // Writes pending and seen of every record into a state, a slice as for `save`; its other bytes stay. Over the bytes of a network these are the bytes of that
     // network with these words (`put_messages_lem`, specs/laws/Messages.antt).
     #[tactic(auto, using(crate::specs::laws::Messages::length_put_messages, crate::specs::laws::Messages::put_messages_more), unfolding(crate::specs::Storing::put_messages))]
     pub fn save_messages(&self, state: &mut [u8])

@@ -115,7 +115,8 @@ fn row_same(known: &[u32; 1024], subscribers: &[u32; 32], listed: u32, p: Peer) 
 }
 
 // The lowest topic for which the row of p has other subscribers than those among the peers listed. It is for the detail alone: a test of
-// the rule asks `row_same`, since the search, inlined, spoils the comparison by vectors.
+// the rule asks `row_same`, since the search, inlined, spoils the comparison by vectors. Both ask for the rows alone, and no network: the rows are what is
+// compared.
 #[tactic(auto, using(crate::proofs::Steps::looking), unfolding(crate::specs::Tests::row_known))]
 pub(crate) fn row_known(
     known: &[u32; 1024],
@@ -164,7 +165,8 @@ fn absent_fault(n: &Network, p: Peer) -> Result<(), Refusal>
     Err(Refusal::AbsentNotEmpty)
 }
 
-// The fault of a present record, `subscribers` being the peers subscribed to each topic.
+// The fault of a present record, `subscribers` being the peers subscribed to each topic. (A type for a network and its subscribers would hold both lent, and say
+// between them what is a clause here and in two functions more: longer than the three.)
 #[tactic(auto, using(crate::proofs::Steps::testing), unfolding(crate::specs::Rules::own_right, crate::specs::Rules::apart_right))]
 fn present_fault(n: &Network, p: Peer, subscribers: &[u32; 32]) -> Result<(), Refusal>
     requires { (p.0 < 32) × (subscribers.now ≡ subscribers_of n.now.subs) }

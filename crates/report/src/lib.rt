@@ -20,7 +20,7 @@ use network::Network;
 use sets::Word;
 use text::Page;
 
-// "`FLOOD `, then number, place, accepted".
+// "`FLOOD `, then number, place, accepted": the number is printed, whichever it is.
 #[tactic(auto, using(crate::specs::laws::TextLaws::length_byte, crate::specs::laws::TextLaws::spaced_long))]
 fn first_line(page: &mut Page, number: u8, place: usize, accepted: usize)
     requires { page.old.at + 52 ≤ length page.old.out.now }
@@ -62,7 +62,7 @@ fn peer_lines(page: &mut Page, n: &Network)
     }
 }
 
-// "For 0 and any refused event": is a run's number followed by the peers?
+// "For 0 and any refused event": is a run's number, the one that is printed, followed by the peers?
 #[tactic(auto, unfolding(crate::specs::Report::shown_for))]
 pub fn shown(number: u8) -> bool
     ensures { result ≡ shown_for number }
@@ -71,7 +71,7 @@ pub fn shown(number: u8) -> bool
 }
 
 // What is printed of a run's answer and the network after it, with the peers where `show` says so (for a run: `shown(number)`); answers its length.
-// The number is printed: it is the one of the answer that C reads, too.
+// The number is printed: it is the one of the answer that C reads, too. The buffer is lent and the length answered, as of `Read`: no heap.
 pub fn report(
     number: u8,
     place: usize,
@@ -83,7 +83,7 @@ pub fn report(
     ensures { Reported number place accepted n.now show out.old out.new result }
 {
     if out.len() < 1024 {
-        return 0;
+        return 0; // a length
     }
     let mut page = Page { out, at: 0 };
     first_line(&mut page, number, place, accepted);

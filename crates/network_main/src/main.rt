@@ -24,8 +24,7 @@ fn main(rt: HostRuntime) -> io::Result<()> {
     reads::accepted(&rt)?;
     reads::lengths(&rt)?;
     reads::rule_20(&rt)?;
-    reads::rule_21_first(&rt)?;
-    reads::rule_21_last(&rt)?;
+    reads::rule_21(&rt)?;
     reads::rule_22(&rt)?;
     reads::rule_23(&rt)?;
     reads::rule_24(&rt)?;

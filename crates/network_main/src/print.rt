@@ -8,43 +8,28 @@ pub(crate) fn word(rt: &impl Print, text: &str, n: u64) -> io::Result<()> {
 }
 
 // `, byte B = X`: the byte that was set.
-pub(crate) fn byte(rt: &impl Print, at: usize, x: u8) -> io::Result<()> {
-    word(rt, ", byte ", at as u64)?;
+pub(crate) fn byte(rt: &impl Print, at: u8, x: u8) -> io::Result<()> {
+    word(rt, ", byte ", u64::from(at))?;
     word(rt, " = ", u64::from(x))
 }
 
-// The word that says what was left behind, or that it was not; and the end of the line.
-fn ending(rt: &impl Print, left: &str, is_left: bool) -> io::Result<()> {
+// `: N P`, the answer, or `: N P D` with the detail; then the word that says what was left behind, or that it was not.
+pub(crate) fn answer(
+    rt: &impl Print,
+    answer: Result<(), Refused>,
+    has_detail: bool,
+    left: &str,
+    is_left: bool,
+) -> io::Result<()> {
+    let checked = Checked::from(answer);
+    word(rt, ": ", u64::from(checked.number))?;
+    word(rt, " ", checked.place as u64)?;
+    if has_detail {
+        word(rt, " ", u64::from(checked.detail))?;
+    }
     print!(rt; " ")?;
     if !is_left {
         print!(rt; "NOT ")?;
     }
     println!(rt; "{left}")
-}
-
-// `: N P`, the answer, and what was left behind.
-pub(crate) fn answer(
-    rt: &impl Print,
-    answer: Result<(), Refused>,
-    left: &str,
-    is_left: bool,
-) -> io::Result<()> {
-    let checked = Checked::from(answer);
-    word(rt, ": ", u64::from(checked.number))?;
-    word(rt, " ", checked.place as u64)?;
-    ending(rt, left, is_left)
-}
-
-// The same with the detail: `: N P D`.
-pub(crate) fn detailed(
-    rt: &impl Print,
-    answer: Result<(), Refused>,
-    left: &str,
-    is_left: bool,
-) -> io::Result<()> {
-    let checked = Checked::from(answer);
-    word(rt, ": ", u64::from(checked.number))?;
-    word(rt, " ", checked.place as u64)?;
-    word(rt, " ", u64::from(checked.detail))?;
-    ending(rt, left, is_left)
 }

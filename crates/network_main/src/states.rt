@@ -82,13 +82,11 @@ pub(crate) fn bytes(n: &Network) -> [u8; 5120] {
     b
 }
 
-// The state with x as byte `at` of record p.
-pub(crate) fn set(state: [u8; 5120], p: usize, at: usize, x: u8) -> [u8; 5120] {
-    let mut b = state;
-    if p < 32 {
-        if at < 160 {
-            b[160 * p + at] = x;
-        }
+// The bytes, of a state or of a table, with x as byte `at`; the same bytes if there is no byte `at`.
+pub(crate) fn set<const N: usize>(bytes: [u8; N], at: usize, x: u8) -> [u8; N] {
+    let mut b = bytes;
+    if at < N {
+        b[at] = x;
     }
     b
 }

@@ -1,25 +1,14 @@
 // Reading a message table: refused by 2, then by 4 with the lowest bad row, a table of zeros then standing where another stood.
-use crate::print;
+use crate::{print, states};
 use network::Table;
 use std::io;
 
-// The table with x as byte `at` of row r.
-fn set(table: [u8; 256], r: usize, at: usize, x: u8) -> [u8; 256] {
-    let mut b = table;
-    if r < 64 {
-        if at < 4 {
-            b[4 * r + at] = x;
-        }
-    }
-    b
-}
-
 // Rows 0 and 63 with the highest topic and origin, all others zero.
 fn sound() -> [u8; 256] {
-    let b = set([0u8; 256], 0, 0, 31);
-    let b = set(b, 0, 1, 31);
-    let b = set(b, 63, 0, 31);
-    set(b, 63, 1, 30)
+    let b = states::set([0u8; 256], 0, 31);
+    let b = states::set(b, 1, 31);
+    let b = states::set(b, 4 * 63, 31);
+    states::set(b, 4 * 63 + 1, 30)
 }
 
 // What stands where a case reads into: no zero, and no case reads it.
@@ -42,6 +31,7 @@ pub(crate) fn accepted(rt: &impl Print) -> io::Result<()> {
     print::answer(
         rt,
         read,
+        false,
         "as given",
         t.topics[0] == 31
             && t.origins[0] == 31
@@ -57,7 +47,7 @@ fn length(rt: &impl Print, table: &[u8]) -> io::Result<()> {
     let mut t = before();
     let read = t.read(table);
     print::word(rt, "table, length ", table.len() as u64)?;
-    print::answer(rt, read, "zeros", is_zero(&t))
+    print::answer(rt, read, false, "zeros", is_zero(&t))
 }
 
 pub(crate) fn lengths(rt: &impl Print) -> io::Result<()> {
@@ -68,13 +58,13 @@ pub(crate) fn lengths(rt: &impl Print) -> io::Result<()> {
 }
 
 // The table with byte `at` of row r set to x.
-fn damaged(rt: &impl Print, table: [u8; 256], r: usize, at: usize, x: u8) -> io::Result<()> {
-    let b = set(table, r, at, x);
+fn damaged(rt: &impl Print, table: [u8; 256], r: u8, at: u8, x: u8) -> io::Result<()> {
+    let b = states::set(table, 4 * usize::from(r) + usize::from(at), x);
     let mut t = before();
     let read = t.read(&b);
-    print::word(rt, "table, row ", r as u64)?;
+    print::word(rt, "table, row ", u64::from(r))?;
     print::byte(rt, at, x)?;
-    print::answer(rt, read, "zeros", is_zero(&t))
+    print::answer(rt, read, false, "zeros", is_zero(&t))
 }
 
 pub(crate) fn rows(rt: &impl Print) -> io::Result<()> {
@@ -87,5 +77,5 @@ pub(crate) fn rows(rt: &impl Print) -> io::Result<()> {
     damaged(rt, b, 63, 1, 32)?;
     damaged(rt, b, 63, 2, 1)?;
     damaged(rt, b, 63, 3, 128)?;
-    damaged(rt, set(b, 63, 0, 255), 1, 1, 255)
+    damaged(rt, states::set(b, 4 * 63, 255), 1, 1, 255)
 }

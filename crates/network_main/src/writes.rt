@@ -22,9 +22,10 @@ fn write_over(n: &Network) -> After {
 pub(crate) fn accepted(rt: &impl Print) -> io::Result<()> {
     let after = write_over(&states::linked());
     print!(rt; "write, sound")?;
-    print::detailed(
+    print::answer(
         rt,
         after.answer,
+        true,
         "as given",
         after.bytes == states::linked_by_hand(),
     )
@@ -35,7 +36,13 @@ fn refused(rt: &impl Print, rule: u64, fault: u64, n: Network) -> io::Result<()>
     let after = write_over(&n);
     print::word(rt, "write, rule ", rule)?;
     print::word(rt, " at ", fault)?;
-    print::detailed(rt, after.answer, "untouched", after.bytes == [170u8; 5120])
+    print::answer(
+        rt,
+        after.answer,
+        true,
+        "untouched",
+        after.bytes == [170u8; 5120],
+    )
 }
 
 // An unsound network is written over a buffer whose bytes are those of `before`: a wrong length is found before the unsound record.
@@ -44,7 +51,7 @@ fn length(rt: &impl Print, state: &mut [u8], before: &[u8]) -> io::Result<()> {
     n.neighbours[0] = 0;
     let wrote = n.write(&mut *state);
     print::word(rt, "write, length ", before.len() as u64)?;
-    print::detailed(rt, wrote, "untouched", &*state == before)
+    print::answer(rt, wrote, true, "untouched", &*state == before)
 }
 
 pub(crate) fn lengths(rt: &impl Print) -> io::Result<()> {

@@ -29,7 +29,7 @@ pub fn underway(pending: &[u64; 32]) -> u64
     w
 }
 
-// Each set without the messages of w.
+// Each set without the messages of w. (A loop, as network's src/load.rt has them.)
 #[tactic(auto, using(lists::specs::laws::Tab::filled_none, lists::specs::laws::Tab::filled_more, crate::proofs::laws::CommitLaws::without_filled))]
 pub fn settled(seen: &[u64; 32], w: u64) -> [u64; 32]
     ensures { result ≡ without w seen.now }

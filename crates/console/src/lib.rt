@@ -14,7 +14,7 @@ ghost use Rattle.console.specs.Console.{refused_text, text_of, flood_of, Printed
 use engine::Tally;
 use network::{Network, Refusal};
 
-// Refused before any event: the first line alone.
+// Refused before any event: the first line alone. (The buffer is lent on, here and below, as `answer` has it.)
 fn refused(refusal: Refusal, place: usize, out: &mut [u8]) -> usize
     ensures { Printed (refused_text (number_of refusal) place) out.old out.new result }
 {

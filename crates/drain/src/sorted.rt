@@ -75,7 +75,7 @@ impl<'a> Sorted<'a> {
         }
     }
 
-    // Forwards all messages of `todo` at p, at once: those of one topic together, of the topics used alone.
+    // Forwards all messages of `todo` at p, at once: those of one topic together, of the topics used alone. (A row's place is written out, as in network's loops.)
     fn forward_set(&self, n: &mut Network, p: Peer, todo: u64)
         requires p_bound { p.0 < 32 }
         requires filed { AllFiled self.now.table.now.topics self.now.words self.now.used todo }

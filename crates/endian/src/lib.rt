@@ -10,7 +10,7 @@
 ghost use Rattle.std.specs.Prelude.{◌≡◌, ℕ, ◌+◌, ◌≤◌, length};
 ghost use Rattle.endian.specs.Le.{le, put_le};
 
-/// A number that stands in bytes, the lowest first.
+/// A number that stands in bytes, the lowest first. The bytes are lent with the place in them: nothing is made and copied.
 pub trait Little: Copy {
     // How many bytes it takes, and what number it is.
     ghost size: { ℕ };

@@ -86,7 +86,7 @@ impl Answer {
         }
     }
 
-    // Refused, after so many accepted events.
+    // Refused, after so many accepted events. (These are no `From`: the count stands beside the refusal.)
     fn refused(refused: Refused, accepted: usize) -> Answer
         ensures { result ≡ answered (number_of refused.refusal) refused.place refused.detail accepted }
     {

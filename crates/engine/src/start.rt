@@ -5,7 +5,7 @@ ghost use Rattle.engine.specs.Start.{begun_as, begun_of, begin_of};
 use crate::Begun;
 use network::{Network, Refusal, Refused, Table};
 
-// Reads the network and the table, or refuses. `events` is the length of the event bytes; 0 where there are none.
+// Reads the network and the table, in place (an entry point for C moves no 5 KB), or refuses. `events` is the length of the event bytes; 0 where there are none.
 pub(crate) fn start(
     state: &[u8],
     table: &[u8],

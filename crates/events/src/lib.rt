@@ -129,6 +129,7 @@ pub fn read_at(bytes: &[u8], place: usize) -> Option<Result<Event, Refusal>>
     Some(Event::try_from(fields_at(bytes, place * 16)))
 }
 
+// A record's fields, in the order of document 01's table; byte 3 is zero.
 fn fields_mk(code: u8, peer: u8, message: u8, subs: u32, pubs: u32, neighbours: u32) -> Fields
     ensures { result ≡ fields_mk code peer message subs pubs neighbours }
 {
@@ -161,6 +162,7 @@ impl From<Event> for Fields {
     }
 }
 
+// (A buffer and a place in it, here and in `put_fields`, as a record is written where the list has it: nothing is made and copied.)
 #[tactic(auto, unfolding(crate::specs::Writing::put_head))]
 fn put_head(bytes: &mut [u8], at: usize, f: Fields)
     requires { at + 4 ≤ length bytes.old }
@@ -238,7 +240,7 @@ impl<'a> Iterator for Reader<'a> {
     }
 }
 
-// Plain parameters: a reader is made and asked once.
+// Plain parameters: a reader is made and asked once. (It and `read_at` promise the same; both are public, and docs/ names both.)
 pub fn event_at(bytes: &[u8], place: usize) -> Option<Result<Event, Refusal>>
     ensures { reading_of result ≡ reading_at bytes.now place }
 {

@@ -12,7 +12,8 @@ ghost use Rattle.floodnet.specs.Lent.{holding, Makes};
 use network::{Message, Peer};
 use sets::Word;
 
-// Those of s that have m neither pending nor seen: the members of s are visited, and no branch depends on who holds what.
+// Those of s that have m neither pending nor seen: the members of s are visited, and no branch depends on who holds what. (The loops here take the arrays
+// that they read or change, and no network: they say nothing of the others.)
 #[tactic(auto, using(sets::proofs::laws::Lowest::taken_below))]
 pub(crate) fn lacking(pending: &[u64; 32], seen: &[u64; 32], s: u32, m: Message) -> u32
     requires { m.0 < 64 }

@@ -20,7 +20,7 @@ mod refusals; // refusals.rt: what the events ask
 pub mod turns; // turns.rt: an event of each kind, asked and done; the single forward calls its own
 
 // What one event comes to: its kind, refused or not; and its outcome, which is the refusal, or the receivers of an accepted
-// forward, the set of peers that newly hold its message, and 0 for an accepted event of another kind.
+// forward, the set of peers that newly hold its message, and the empty set for an accepted event of another kind.
 #[derive(Clone, Copy)]
 pub struct Turned {
     pub kind: Kind,

@@ -1,4 +1,5 @@
-// What the events ask (specs/Refusals.antt): the first condition that fails refuses the event.
+// What the events ask (specs/Refusals.antt): the first condition that fails refuses the event. Each asks for presence itself, as its row of document 01's table
+// does. (With `of_topics(n, p)?` in its place the check does not find `of_produce`.)
 #![tactic(auto, using(crate::proofs::CodeRefusals::needs), unfolding(crate::specs::Refusals::refusal_produce, crate::specs::Refusals::refusal_forward, crate::specs::Refusals::refusal_topics, crate::specs::Refusals::refusal_leave, crate::specs::Refusals::refusal_join))]
 
 ghost use Rattle.std.specs.Prelude.{◌≡◌, ◌<◌};

@@ -43,7 +43,7 @@ pub(crate) fn in_rows<F: Fn(u32) -> u32>(known: &mut [u32; 1024], who: u32, topi
     }
 }
 
-// All words of the rows of `who`.
+// All words of the rows of `who`. (Beside `in_rows` for the reason at `whole_row`.)
 pub(crate) fn whole_rows<F: Fn(u32) -> u32>(known: &mut [u32; 1024], who: u32, f: F)
     requires { F.IsAlwaysCallable f }
     ensures { (h : ℕ → ℕ) → Makes (F.post f) h → known.new ≡ edit (λ i. when (has who (i / 32)) h) known.old }
@@ -53,7 +53,7 @@ pub(crate) fn whole_rows<F: Fn(u32) -> u32>(known: &mut [u32; 1024], who: u32, f
     }
 }
 
-// p knows each of `who` for each of its topics.
+// p knows each of `who` for each of its topics. (The two arrays that it reads and fills, as the loops above: no network.)
 pub(crate) fn learn(known: &mut [u32; 1024], p: Peer, subs: &[u32; 32], who: u32)
     requires { p.0 < 32 }
     ensures { known.new ≡ edit (learnt p.0 subs.now who) known.old }

@@ -26,6 +26,7 @@ pub use refusal::Refusal;
 
 // "A peer number, a topic number and a message number are separate sorts": none stands where another is meant. Each holds any byte, since
 // `events::record` and `write_at` promise the bytes of every event, whatever its numbers; so a range is a clause of what needs it.
+// As an index one is `p.0 as usize`, the language's own cast.
 #[derive(Clone, Copy, Debug, PartialEq, Eq)]
 pub struct Peer(pub u8);
 
@@ -65,6 +66,7 @@ impl TryFrom<u8> for Message {
     }
 }
 
+// (Neither this nor `Table` has PartialEq: only network_main compares, with the bytes or columns that document 01 gives.)
 // The working state: for each peer its sets as words; `known` has the word of topic t of peer p at p * 32 + t. Columns and no records: the
 // definitions speak of them (specs/Network.antt), and a row of known subscribers is compared whole, by vectors.
 #[derive(Clone, Copy)]

@@ -7,7 +7,7 @@ ghost use Rattle.network.specs.Layout.{RowStored};
 use crate::Peer;
 use endian::Little;
 
-// Word j of each record.
+// Word j of each record. (`array::from_fn` was tried: the check does not find its promise, as it does the loop's.)
 #[tactic(auto, using(crate::proofs::Steps::filling), unfolding(crate::specs::State::word))]
 pub(crate) fn words(state: &[u8; 5120], j: usize) -> [u32; 32]
     requires { j < 40 }
@@ -48,7 +48,7 @@ fn row(state: &[u8; 5120], p: Peer) -> [u32; 32]
     r
 }
 
-// Stores row p, the rows before it being there. The row is passed by value, so that the compiler sees that it is not part of `known`.
+// Stores row p, the rows before it being there. (The place is written out, as `RowStored` has it.) The row is passed by value, so that the compiler sees that it is not part of `known`.
 #[tactic(auto, using(crate::proofs::Steps::storing))]
 fn put_row(known: &mut [u32; 1024], p: Peer, row: [u32; 32])
     requires { p.0 < 32 }

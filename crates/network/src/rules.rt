@@ -46,7 +46,8 @@ pub(crate) fn subscribers(subs: &[u32; 32]) -> [u32; 32]
     r
 }
 
-// The row of p has no known subscribers.
+// The row of p has no known subscribers. (Like the other tests here it asks for the words that it reads, and no network.) Every topic is asked, so that the compiler
+// can ask many at once.
 #[tactic(auto, using(crate::proofs::Steps::asking), unfolding(crate::specs::Tests::row_empty))]
 fn row_empty(known: &[u32; 1024], p: Peer) -> bool
     requires { p.0 < 32 }

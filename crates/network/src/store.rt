@@ -45,7 +45,7 @@ pub(crate) fn words(state: &mut [u8], n: &Network, p: Peer)
     n.seen[i].put(&mut *state, at + 24);
 }
 
-// The known subscribers of p.
+// The known subscribers of p, from the words that have them.
 #[tactic(auto, using(crate::proofs::Steps::filling))]
 pub(crate) fn row_of(known: &[u32; 1024], p: Peer) -> [u32; 32]
     requires { p.0 < 32 }

@@ -72,6 +72,7 @@ pub fn shown(number: u8) -> bool
 
 // What is printed of a run's answer and the network after it, with the peers where `show` says so (for a run: `shown(number)`); answers its length.
 // The number is printed: it is the one of the answer that C reads, too. The buffer is lent and the length answered, as of `Read`: no heap.
+// (Three numbers and no `Answer`: that is engine's, a crate above.)
 pub fn report(
     number: u8,
     place: usize,

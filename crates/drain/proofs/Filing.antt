@@ -1,7 +1,7 @@
 -- What a drain has to look at (specs/AtOnce.antt): the messages that are pending somewhere, their topics, and those of each topic in a word. What
 -- the loops keep that find them; and that then every pending message is filed. Assumes nothing.
-use Rattle.std.specs.Prelude.{◌≡◌, refl, ◌⊎◌, Bool, true, ◌&&◌, ◌||◌, List, ℕ, zero, suc, ◌+◌, ◌^◌, ◌<◌, eqb, length, get_or, set, replicate}
-use Rattle.std.proofs.Common.{sym, ap, ◌∙◌, inl, inr, add-one, arith, length-set, get_or-set_same, get_or-set_other, eq-eqb, eqb-true}
+use Rattle.std.specs.Prelude.{◌≡◌, ◌⊎◌, Bool, true, ◌&&◌, ◌||◌, List, ℕ, zero, suc, ◌+◌, ◌^◌, ◌<◌, eqb, length, get_or, set, replicate}
+use Rattle.std.proofs.Common.{sym, ap, ◌∙◌, inl, inr, arith, length-set, get_or-set_same, get_or-set_other, eq-eqb, eqb-true}
 use native.Mathlib.Decide.{ℕ_discrete}
 use lib.ListN.{length-replicate, get_or-replicate}
 use Rattle.sets.specs.Any.{any}
@@ -17,16 +17,6 @@ use Rattle.sets.proofs.laws.Visits.{minus_self, minus_none, subset_self, subset_
 use Rattle.drain.specs.AtOnce.{TopicsFit, anywhere_of, topics_of, ByTopic, OwnTopics, AllFiled, EachFiled}
 
 -- ---- `anywhere`
-
--- before the first turn
-pub anywhere_none : (l : List ℕ) → 0 ≡ anywhere_of l 0
-unfolding anywhere_of
-anywhere_none l = refl
-
--- a turn
-pub anywhere_more : (l : List ℕ) (k : ℕ) → anywhere_of l (k + 1) ≡ union (anywhere_of l k) (get_or l k 0)
-unfolding anywhere_of
-anywhere_more l k = rw (add-one k)
 
 -- A message of one of the words is among them.
 has_anywhere : (l : List ℕ) (k p m : ℕ) → p < k → has (get_or l p 0) m ≡ true → has (anywhere_of l k) m ≡ true

@@ -1,6 +1,5 @@
 // A run over a list of events: each event is taken through a reader and done on the network that is lent, and the lent tally is updated
 // event by event.
-ghost use Rattle.std.specs.Prelude.{◌≡◌};
 ghost use Rattle.network.specs.Network.{Rows};
 ghost use Rattle.floodnet.specs.Step.{numbered};
 ghost use Rattle.engine.specs.Run.{Turn, ReadFits, ran, run_all, RunsTo};

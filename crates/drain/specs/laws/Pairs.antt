@@ -5,7 +5,7 @@ use Rattle.std.proofs.Math.Path.{sym, ap}
 use Rattle.std.proofs.Math.Nat.{sub-zero, eq-zero-or-pos}
 use Rattle.std.proofs.Math.ListN.{length, take, length-take}
 use Rattle.std.proofs.Math.Seq.{take-nil}
-use Rattle.sets.specs.Set.{has, minus, only, lowest, count, digit}
+use Rattle.sets.specs.Set.{has, only, lowest, count, digit}
 use Rattle.sets.specs.Rising.{rising, Takes}
 use Rattle.sets.proofs.laws.Bools.{bool_ext, and_both, and_yes}
 use Rattle.sets.proofs.laws.Members.{has_none}

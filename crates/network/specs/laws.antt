@@ -6,6 +6,7 @@ pub mod Messages
 pub mod Network
 pub mod OpenedSound
 pub mod Opening
+pub mod Settled
 pub mod Numbers
 pub mod Refusal
 pub mod RuleLaws

@@ -2,7 +2,7 @@
 -- document 01's tally. `run_page` (specs/laws/RunPageLaws.antt) proves it of every outcome that satisfies what `relay_run` promises (`Ends .. (run_of ..)`).
 -- How to read it: `x ≡ y`: x is y; `x ≡ true`: x holds; `×`: and, or, with a name in front, there is; `⊎`: or; `↔`: exactly if; `→`: then;
 -- `→ ⊥`: never, or not. What follows a colon is what is claimed, and the line above it says it in words. Assumes nothing.
-use Rattle.std.specs.Prelude.{◌≡◌, ◌↔◌, List, ℕ, suc, ◌+◌, ◌*◌, ◌/◌, ◌≤◌, ◌<◌, length, take, Some, Ok, Err}
+use Rattle.std.specs.Prelude.{◌≡◌, ◌↔◌, ◌⊎◌, List, ℕ, suc, ◌+◌, ◌*◌, ◌/◌, ◌≤◌, ◌<◌, length, take, Some, Ok, Err}
 use Rattle.sets.specs.Set.{count, size}
 use Rattle.sets.specs.Sums.{sum}
 use Rattle.network.specs.declared.Network.{Network}
@@ -22,6 +22,7 @@ use Rattle.engine.specs.Start.{begin_of}
 use Rattle.engine.specs.Run.{answered, run_of}
 use Rattle.engine.specs.RunCounts.{kind_at}
 use Rattle.pages.specs.RunReached.{reached, turn_at}
+use Rattle.network.specs.declared.refusal.Refusal.{Refusal}
 use Rattle.network.specs.declared.refusal.Refusal.TheVariants.{UnknownCode, Unfit}
 use Rattle.events.specs.Event.{read_at}
 
@@ -74,9 +75,10 @@ pub record RunDone (s t ev : List ℕ) (old : Tally) (r : Answer) (s' : List ℕ
 
 -- What becomes of a record, in the network m that it meets: i is its place.
 pub record TurnPage (ev : List ℕ) (b : Table) (n : Network) (i : ℕ) (m : Network) : Type 0 where
-  -- bytes that are no event are refused: by 6 for an unknown code, by 7 for a number out of range or an unused byte that is not zero
+  -- bytes that are no event are refused: by 6 for an unknown code, by 7 for a number out of range or an unused byte that is not zero; by no other
   pub unknown : read_at ev i ≡ Some (Err UnknownCode) → (turn_at ev b n i).number ≡ 6
   pub unfit : read_at ev i ≡ Some (Err Unfit) → (turn_at ev b n i).number ≡ 7
+  pub no_other : (refusal : Refusal) → read_at ev i ≡ Some (Err refusal) → (refusal ≡ UnknownCode) ⊎ (refusal ≡ Unfit)
   -- an event is refused by the number of the first of its conditions that fails, 0 if none does (specs/Page.antt of the crate transitions)
   pub event : (e : Event) → read_at ev i ≡ Some (Ok e) → (turn_at ev b n i).number ≡ refusal m b e
   -- an accepted event does what its kind does, and its receivers are those of its kind (of a forward, specs/Receivers.antt of transitions)

@@ -1,7 +1,7 @@
 -- 01's number and values fix the case: a promise through `reading_of` says which case was answered, and every reading of bytes is
 -- a case's. Assumes nothing.
 use Rattle.std.specs.Prelude.{ℕ, ◌*◌, ◌/◌, ◌<◌, ◌≡◌, refl, ◌⊎◌, Bool, true, false, cond, List, ltb, eqb, length, Option, None, Some, Result, Ok, Err}
-use Rattle.std.proofs.Common.{sym, ap, ◌∙◌, inl, inr, lt-ltb, ltb-true}
+use Rattle.std.proofs.Common.{sym, ap, subst, ◌∙◌, inl, inr, lt-ltb, ltb-true}
 use Rattle.sets.proofs.laws.Bools.{clash}
 use Rattle.events.specs.declared.Fields.{Fields}
 use Rattle.events.specs.declared.Event.{Event}
@@ -82,6 +82,21 @@ reading_at_lem l place = of_bytes l place
 -- So the promise of reading gives the answer back as a case.
 pub read_is : (r : Read) (l : List ℕ) (place : ℕ) → reading_of r ≡ reading_at l place → r ≡ read_at l place
 read_is r l place h = reading_fixes r (read_at l place) (h ∙ sym (reading_at_lem l place))
+
+-- Bytes are of such a case: what stands at a place is refused by 6 or by 7, and by nothing else.
+given : (x : Reading) → Given (read_of x)
+unfolding read_of Given
+given x = first x.found (eqb x.number 0) (eqb x.number 6)
+  where
+    first : (found zero six : Bool) → Given (cond found (Some (cond zero (Ok x.event) (Err (cond six UnknownCode Unfit)))) None)
+    first true true six = tt
+    first true false true = inl refl
+    first true false false = inr refl
+    first false zero six = tt
+
+pub refused_by_6_or_7 : (l : List ℕ) (place : ℕ) (refusal : Refusal) → read_at l place ≡ Some (Err refusal) → (refusal ≡ UnknownCode) ⊎ (refusal ≡ Unfit)
+unfolding read_at Given
+refused_by_6_or_7 l place refusal h = subst Given h (given (reading_at l place))
 
 -- an event is taken at a place: as a case, and in numbers and values
 pub reads_as : (l : List ℕ) (place : ℕ) (e : Event) → reading_at l place ≡ taken e → read_at l place ≡ Some (Ok e)

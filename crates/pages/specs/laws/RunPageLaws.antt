@@ -20,6 +20,7 @@ use Rattle.network.specs.laws.OpenedSound.{opened_sound}
 use Rattle.network.specs.laws.Trips.{write_read}
 use Rattle.events.specs.declared.Event.{Event}
 use Rattle.events.specs.declared.kind.Kind.{Kind}
+use Rattle.events.specs.laws.ReadingLaws.{refused_by_6_or_7}
 use Rattle.events.specs.Kind.{kind_of, alike}
 use Rattle.floodnet.specs.laws.StepLaws.{turned_number}
 use Rattle.floodnet.specs.Step.{refusal, effect, if_accepted, after, receivers_of, turned, turned_of}
@@ -60,6 +61,7 @@ page_turn ev b n i =
     record {
       unknown = λ z. ap (λ (r : Read). (turn_of b m r).turned.number) z;
       unfit = λ z. ap (λ (r : Read). (turn_of b m r).turned.number) z;
+      no_other = refused_by_6_or_7 ev i;
       event = λ e z. ap (λ (r : Read). (turn_of b m r).turned.number) z ∙ turned_number (refusal m b e) (kind_of e) (receivers_of m b e);
       does = λ e z h.
           (ap (λ (r : Read). (turn_of b m r).network) z ∙ (done_accepted b m e h).0, ap (λ (r : Read). (turn_of b m r).turned.receivers) z ∙ (done_accepted b m e h).1);

@@ -7,6 +7,7 @@ use Rattle.network.specs.declared.refusal.Refusal.{Refusal}
 use Rattle.network.specs.Refusal.{number_of}
 use Rattle.network.specs.laws.Numbers.{refusal_not_0}
 use Rattle.events.specs.declared.Event.{Event}
+use Rattle.events.specs.declared.kind.Kind.{Kind}
 use Rattle.events.specs.Kind.{kind_of}
 use Rattle.floodnet.specs.Step.{refusal, effect, if_accepted, after, receivers_of, turned, turned_of}
 
@@ -23,14 +24,15 @@ after_refused n b e h = go (refusal n b e) h
     go zero h = absurd (omega arith)
     go (suc k) h = refl
 
--- and has no receivers
+-- and has no receivers, whatever the number
+pub turned_none : (k : ℕ) (kind : Kind) (to : ℕ) → 0 < k → record { number = k; kind = kind; receivers = 0 } ≡ turned k kind to
+unfolding turned
+turned_none zero kind to h = absurd (omega arith)
+turned_none (suc k) kind to h = refl
+
 pub turned_refused : (n : Network) (b : Table) (e : Event) → 0 < refusal n b e → turned_of n b e ≡ record { number = refusal n b e; kind = kind_of e; receivers = 0 }
-unfolding turned_of turned
-turned_refused n b e h = go (refusal n b e) h
-  where
-    go : (k : ℕ) → 0 < k → turned k (kind_of e) (receivers_of n b e) ≡ record { number = k; kind = kind_of e; receivers = 0 }
-    go zero h = absurd (omega arith)
-    go (suc k) h = refl
+unfolding turned_of
+turned_refused n b e h = sym (turned_none (refusal n b e) (kind_of e) (receivers_of n b e) h)
 
 -- an accepted event takes effect
 pub after_done : (n : Network) (b : Table) (e : Event) → 0 ≡ refusal n b e → after n b e ≡ effect n b e

@@ -4,9 +4,10 @@ use Rattle.std.proofs.Common.{sym, ap, ◌∙◌, not-suc-le-zero, le_of_suc-le-
 use lib.Pow.{pow-lt}
 use lib.Bits.{or_zero_r, xor_add_and, and_mask}
 use Rattle.sets.proofs.laws.Bools.{apart, apart_true}
-use Rattle.sets.specs.Set.{has, union, meet, minus, only, when, puts, with_if, digit}
+use Rattle.sets.specs.Set.{has, union, meet, minus, only, when, puts, with_if, digit, lowest}
 use Rattle.sets.proofs.laws.Members.{has_first, has_rest, has_meet, has_xor, ext_below, has_minus}
 use Rattle.sets.proofs.laws.Bounds.{meet_lt, minus_lt}
+use Rattle.sets.proofs.laws.Lowest.{lowest_has, only_le, minus_only, and_pred}
 
 -- A word of k bits that are all set has every number below k.
 pub has_all : (k i : ℕ) → i < k → has (2 ^ k - 1) i ≡ true
@@ -46,8 +47,27 @@ pub or_shl : (k w i : ℕ) → i < k → bit_or w ((1 * 2 ^ i) % 2 ^ k) ≡ unio
 unfolding union
 or_shl k w i h = ap (union w) (shl_only k i h)
 
+-- `w & !(w - 1)` is the set of the least member.
+pub and_not_pred : (k w : ℕ) → 0 < w → w < 2 ^ k → bit_and w ((2 ^ k - 1) - (w - 1)) ≡ only (lowest k w)
+unfolding minus meet only
+and_not_pred k w p h =
+    let e = and_pred k w p h ∙ minus_only w (lowest k w) (lowest_has k w p h) in
+    let b = only_le w (lowest k w) (lowest_has k w p h) in
+    and_not k w (w - 1) h (omega arith) ∙ omega (arith, e, b)
+
 -- `w | (b as u64) << i` is w with i where b is true.
 pub or_shl_if : (k w i : ℕ) (b : Bool) → i < k → bit_or w ((digit b * 2 ^ i) % 2 ^ k) ≡ with_if b i w
 unfolding when puts
 or_shl_if k w i true h = or_shl k w i h
 or_shl_if k w i false h = let z : (0 * 2 ^ i) % 2 ^ k ≡ 0 = omega (arith, pow_pos k) in ap (bit_or w) z ∙ or_zero_r w
+
+-- `v | x * (b as u64)` is v with i where b is true, x being the set of i.
+pub or_times : (v x i : ℕ) (b : Bool) → x ≡ only i → bit_or v (x * digit b) ≡ with_if b i v
+unfolding when puts union
+or_times v x i true e = let z : x * 1 ≡ x = omega arith in ap (bit_or v) (z ∙ e)
+or_times v x i false e = let z : x * 0 ≡ 0 = omega arith in ap (bit_or v) z ∙ or_zero_r v
+
+-- Such a product fits where x does.
+pub times_lt : (k x : ℕ) (b : Bool) → x < 2 ^ k → x * digit b < 2 ^ k
+times_lt k x true h = omega arith
+times_lt k x false h = omega (arith, pow_pos k)

@@ -25,15 +25,21 @@ fn refused(refusal: Refusal, place: usize, out: &mut [u8]) -> usize
 fn run(state: &[u8], table: &[u8], events: &[u8], out: &mut [u8]) -> usize
     ensures { Printed (text_of state.now table.now events.now) out.old out.new result }
 {
-    let begun = match engine::start::begin(state, table, events.len()) {
+    let mut begun = match engine::start::begin(state, table, events.len()) {
         Err(e) => return refused(e.refusal, e.place, out),
         Ok(begun) => begun,
     };
-    let mut n = begun.network;
     let mut tally = Tally::default();
-    let answer = engine::running::run_events(&mut n, &begun.table, events, &mut tally);
+    let answer = engine::running::run_events(&mut begun.network, &begun.table, events, &mut tally);
     let show = report::shown(answer.number);
-    report::report(answer.number, answer.place, answer.accepted, &n, show, out)
+    report::report(
+        answer.number,
+        answer.place,
+        answer.accepted,
+        &begun.network,
+        show,
+        out,
+    )
 }
 
 // What the program prints for its input, into what is lent (no heap); answers its length.

@@ -7,7 +7,6 @@ use Rattle.network.specs.declared.Network.{Network}
 use Rattle.network.specs.declared.Table.{Table}
 use Rattle.network.specs.declared.Checked.{Checked}
 use Rattle.network.specs.declared.Refused.{Refused}
-use Rattle.network.specs.declared.refusal.Refusal.{Refusal}
 use Rattle.network.specs.Rules.{checked}
 use Rattle.network.specs.Refused.{checked_as}
 use Rattle.network.specs.State.{Opened, read_as, Opens}

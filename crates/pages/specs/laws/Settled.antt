@@ -1,7 +1,7 @@
 -- "for any two outcomes that satisfy it, equality is proved" (document 01, "What the contracts settle"): for each shape of promise of this crate that
 -- is more than one equation. A promise that is one equation is settled by events' `settled`. Assumes nothing.
 use Rattle.std.specs.Prelude.{◌≡◌, List, ℕ, Result, Ok, Err}
-use Rattle.std.proofs.Common.{sym, ap, ◌∙◌}
+use Rattle.std.proofs.Common.{sym, ap}
 use Rattle.network.specs.declared.Refused.{Refused}
 use Rattle.network.specs.Rules.{checked}
 use Rattle.network.specs.laws.Numbers.{refusal_not_0}
